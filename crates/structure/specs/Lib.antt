@@ -1,1 +1,5 @@
 pub mod Refusals
+pub mod States
+pub mod Meanings
+pub mod Drawings
+pub mod Kinds
