@@ -1,3 +1,4 @@
 pub mod Digits
 pub mod Drawings
 pub mod Monotony
+pub mod Layers

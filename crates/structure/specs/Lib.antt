@@ -3,3 +3,4 @@ pub mod States
 pub mod Meanings
 pub mod Drawings
 pub mod Kinds
+pub mod Layers
