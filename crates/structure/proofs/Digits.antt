@@ -9,6 +9,7 @@ use lib.Arith.{bin-ind, digits-div, digits-mod}
 use lib.Pow.{shr-shr, pow-pos, pow-mono, high, low, split, mod-pow-add, field}
 use lib.Bits.{bitAnd, bitOr, and-step, or-step, and-shr, or-shr, and-le-l}
 use lib.Count.{ones, ones-step, ones-le}
+use Rattle.std.proofs.shelf.Bits.{one-shl}
 use Rattle.std.proofs.shelf.Tests.{cases-lt, cases-eq}
 use Rattle.structure.specs.States.{digit, Within, reversed, cleared, size}
 
@@ -34,7 +35,7 @@ pub same-digits : (x y : ℕ) → ((i : ℕ) → digit x i ≡ digit y i) → x 
 same-digits =
     bin-ind (λ x. (y : ℕ) → ((i : ℕ) → digit x i ≡ digit y i) → x ≡ y)
     (bin-ind (λ y. ((i : ℕ) → digit 0 i ≡ digit y i) → 0 ≡ y) (λ _. refl)
-      (λ y ih e. let half = ih (λ i. digit-none i ∙ sym (digit-none (suc i)) ∙ e (suc i) ∙ sym (digit-half y i)) in omega (arith, half, digit-low y, digit-none 0, e 0)))
+    (λ y ih e. let half = ih (λ i. digit-none i ∙ sym (digit-none (suc i)) ∙ e (suc i) ∙ sym (digit-half y i)) in omega (arith, half, digit-low y, digit-none 0, e 0)))
     (λ x ih y e. let half = ih (y / 2) (λ i. digit-half x i ∙ e (suc i) ∙ sym (digit-half y i)) in omega (arith, half, digit-low x, digit-low y, e 0))
 
 -- a part of a set is no larger a number
@@ -181,3 +182,17 @@ pub size-ones : (n s : ℕ) → s < 2 ^ n → ones s ≡ size n s
 unfolding size
 size-ones zero s h = omega (arith, ones-le 0 s h)
 size-ones (suc n) s h = ones-step s ∙ ap (λ x. s % 2 + x) (size-ones n (s / 2) (omega (arith, pow-suc 2 n))) ∙ sym (size-half n s)
+
+-- ---- the number of states, as 1 shifted left
+
+pub shifted : (n : ℕ) → n ≤ 16 → (1 * 2 ^ n) % 2 ^ 32 ≡ 2 ^ n
+shifted n h = one-shl n 32 (omega arith)
+
+pub states-fit : (n : ℕ) → n ≤ 16 → 2 ^ n ≤ 65536
+states-fit n h = pow-mono {j = 16} h
+
+-- a state that a walk over all of them comes to
+pub walked : (k n s : ℕ) → k ≡ n → n ≤ 16 → s < (1 * 2 ^ k) % 2 ^ 32 → (s < 2 ^ n) × (s < 65536)
+walked k n s e h lt =
+    let all : (1 * 2 ^ k) % 2 ^ 32 ≡ 2 ^ n = ap (λ x. (1 * 2 ^ x) % 2 ^ 32) e ∙ shifted n h in
+    (omega (arith, all), omega (arith, all, states-fit n h))

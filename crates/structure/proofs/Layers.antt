@@ -19,8 +19,8 @@ dual-monotone m mono x y h =
     let n = m .order in
     ⊎-elim
     (λ (up : m .works (reversed n y) ≡ true).
-        let below = mono (reversed n y) (reversed n x) ((reversed-below n x, reversed-within n x y (h .0 .0) (h .0 .1)), up) in
-        absurd (both-ways (m .works (reversed n x)) (not-true (m .works (reversed n x)) (h .1)) below))
+    let below = mono (reversed n y) (reversed n x) ((reversed-below n x, reversed-within n x y (h .0 .0) (h .0 .1)), up) in
+    absurd (both-ways (m .works (reversed n x)) (not-true (m .works (reversed n x)) (h .1)) below))
     (λ (down : m .works (reversed n y) ≡ false). not-from-false (m .works (reversed n y)) down)
     (cases-bool (m .works (reversed n y)))
 

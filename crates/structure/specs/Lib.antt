@@ -4,3 +4,4 @@ pub mod Meanings
 pub mod Drawings
 pub mod Kinds
 pub mod Layers
+pub mod Tables

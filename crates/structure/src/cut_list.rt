@@ -16,7 +16,9 @@ impl CutList {
     pub fn new() -> Self
         ensures { λ r. ⌜ drawing (r .list) ≡ blank ⌝ }
     {
-        CutList { list: SetList::new() }
+        CutList {
+            list: SetList::new(),
+        }
     }
 
     pub fn start(&mut self, order: usize) -> Result<(), Refusal>

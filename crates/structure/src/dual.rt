@@ -24,7 +24,9 @@ impl<S: Structure> Dual<Dual<S>> {
         ensures value { λ r. ⌜ r ≡ self .below .below ⌝ }
         ensures same { λ r. ⌜ Same (S·Structure .meaning r) (dual (dual (S·Structure .meaning (self .below .below)))) ⌝ }
     {
-        let Dual { below: Dual { below } } = self;
+        let Dual {
+            below: Dual { below },
+        } = self;
         below
     }
 }

@@ -28,6 +28,7 @@ pub impl<S: Structure> Structure for Hold<S> as HoldStructure {
     }
 
     fn works(&self, state: u32) -> bool {
-        self.below.works(clear(known(state, self.below.order()), self.failed))
+        self.below
+            .works(clear(known(state, self.below.order()), self.failed))
     }
 }

@@ -9,3 +9,4 @@ pub mod refusal;
 pub mod set_list;
 mod state;
 pub mod structure;
+pub mod table;

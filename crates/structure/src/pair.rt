@@ -33,7 +33,11 @@ impl<A: Structure, B: Structure> Pair<A, B> {
         ensures first { λ r. ⌜ r .first ≡ first ⌝ }
         ensures second { λ r. ⌜ r .second ≡ second ⌝ }
     {
-        Pair { rule, first, second }
+        Pair {
+            rule,
+            first,
+            second,
+        }
     }
 }
 
@@ -45,6 +49,7 @@ pub impl<A: Structure, B: Structure> Structure for Pair<A, B> as PairStructure {
     }
 
     fn works(&self, state: u32) -> bool {
-        self.rule.join(self.first.works(state), self.second.works(state))
+        self.rule
+            .join(self.first.works(state), self.second.works(state))
     }
 }

@@ -16,7 +16,9 @@ impl PathList {
     pub fn new() -> Self
         ensures { λ r. ⌜ drawing (r .list) ≡ blank ⌝ }
     {
-        PathList { list: SetList::new() }
+        PathList {
+            list: SetList::new(),
+        }
     }
 
     pub fn start(&mut self, order: usize) -> Result<(), Refusal>

@@ -12,5 +12,5 @@ returns g c =
     let n = max (a .order) (b .order) in
     c .join .ensures
     ∙ ap₂ (joined (c .args .self .now .rule))
-      (c .works .ensures ∙ sym (ap (a .works) (mod-of-larger (c .args .state) (a .order) n (omega arith))))
-      (c .works-2 .ensures ∙ sym (ap (b .works) (mod-of-larger (c .args .state) (b .order) n (omega arith))))
+    (c .works .ensures ∙ sym (ap (a .works) (mod-of-larger (c .args .state) (a .order) n (omega arith))))
+    (c .works-2 .ensures ∙ sym (ap (b .works) (mod-of-larger (c .args .state) (b .order) n (omega arith))))
