@@ -7,7 +7,7 @@ use lib.ListN.{getD, set}
 use Rattle.std.proofs.shelf.Bits.{one-shl}
 use Rattle.structure.proofs.Digits.{shifted, walked}
 use Rattle.structure.proofs.Layers.{asked-whole}
-use Rattle.structure.proofs.Tables.{marked, Filled, filled-none, filled-yes, filled-no, filled-same, filled-monotone}
+use Rattle.structure.proofs.Tables.{marked, Filled, filled-none, filled-yes, filled-no}
 use Rattle.structure.proofs.table.Table.fill.Given as given
 use Rattle.structure.proofs.table.Table.fill.Needs as need
 use Rattle.structure.proofs.table.Table.fill.Needs.{then-works, else-works}
