@@ -1,0 +1,5 @@
+// What is asked of any structure: its minimal paths and cuts, and drawings made from them.
+pub mod listing;
+pub mod minimal;
+pub mod refusal;
+pub mod role;

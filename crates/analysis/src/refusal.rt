@@ -1,0 +1,18 @@
+// Why a question asked of a structure is refused.
+ghost use mathlib.Core.Path.{_≡_};
+ghost use Rattle.analysis.specs.Refusals.{numberOf};
+
+#[derive(Clone, Copy, Debug, PartialEq, Eq)]
+pub enum Refusal {
+    TooFewPlaces { needed: usize },
+}
+
+impl Refusal {
+    pub fn number(self) -> u8
+        ensures { λ r. ⌜ r ≡ numberOf self ⌝ }
+    {
+        match self {
+            Refusal::TooFewPlaces { .. } => 16,
+        }
+    }
+}
