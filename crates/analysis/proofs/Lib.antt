@@ -1,2 +1,4 @@
 pub mod Rising
 pub mod Sets
+pub mod Places
+pub mod Bounds

@@ -2,10 +2,11 @@
 use mathlib.Core.Path.{_≡_, refl, sym, ap, ap₂, _∙_}
 use mathlib.Core.Bool.{Bool, true, false, cond, _||_}
 use mathlib.Core.List.{List, [], _∷_}
-use Prim.Native.Nat.{ℕ, suc, _+_, _-_, _≤_, _<_}
+use Prim.Native.Nat.{ℕ, zero, suc, _+_, _-_, _≤_, _<_}
 use native.Mathlib.Numerals.{add-one}
 use native.Mathlib.Omega.{arith}
-use Rattle.std.proofs.shelf.Tests.{or-left}
+use lib.ListN.{length}
+use Rattle.std.proofs.shelf.Tests.{or-left, cond-both}
 use Rattle.structure.specs.Kinds.{any}
 use Rattle.analysis.specs.Minimal.{rising, keep}
 
@@ -37,3 +38,13 @@ module _ (test : ℕ → Bool) (n k : ℕ) (within : k < n) where
   pub keep-up-finds : test k ≡ true → keep test (upFrom n k) ≡ k ∷ keep test (upFrom n (k + 1))
   keep-up-finds e =
       ap (keep test) (up-next n k within) ∙ ap (λ b. cond b (k ∷ keep test (upFrom n (k + 1))) (keep test (upFrom n (k + 1)))) e
+
+pub length-rising : (k n : ℕ) → length (rising k n) ≡ n
+length-rising k zero = refl
+length-rising k (suc n) = ap suc (length-rising (suc k) n)
+
+pub length-keep : (test : ℕ → Bool) (xs : List ℕ) → length (keep test xs) ≤ length xs
+length-keep test [] = omega arith
+length-keep test (x ∷ xs) =
+    cond-both (test x) (x ∷ keep test xs) (keep test xs) (λ l. length l ≤ suc (length xs))
+    (λ _. omega (arith, length-keep test xs)) (λ _. omega (arith, length-keep test xs))

@@ -1,3 +1,4 @@
 pub mod Refusals
 pub mod Minimal
 pub mod Listing
+pub mod Places

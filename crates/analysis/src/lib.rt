@@ -1,5 +1,6 @@
 // What is asked of any structure: its minimal paths and cuts, and drawings made from them.
 pub mod listing;
 pub mod minimal;
+pub mod minimal_sets;
 pub mod refusal;
 pub mod role;
