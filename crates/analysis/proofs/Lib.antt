@@ -2,3 +2,6 @@ pub mod Rising
 pub mod Sets
 pub mod Places
 pub mod Bounds
+pub mod Redrawing
+pub mod Least
+pub mod Duality

@@ -29,10 +29,10 @@ pub record Written (all before : List ℕ) (coming : List ℕ) (done : ℕ) (pla
 pub written-none : (all before : List ℕ) → Written all before all 0 before
 written-none all before = record { left = refl; within = omega arith; holds = refl }
 
-none-some : (x : ℕ) → None ≡ Some x → ⊥
+pub none-some : (x : ℕ) → None ≡ Some x → ⊥
 none-some x p = let z : _≡_ {A = ℕ} 0 1 = cc in omega arith
 
-same-some : (x y : ℕ) → Some x ≡ Some y → x ≡ y
+pub same-some : (x y : ℕ) → Some x ≡ Some y → x ≡ y
 same-some x y p = cc
 
 -- one more value goes past those that are written, if there is room for it

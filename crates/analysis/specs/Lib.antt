@@ -2,3 +2,4 @@ pub mod Refusals
 pub mod Minimal
 pub mod Listing
 pub mod Places
+pub mod Redrawing

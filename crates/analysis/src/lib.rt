@@ -2,5 +2,6 @@
 pub mod listing;
 pub mod minimal;
 pub mod minimal_sets;
+pub mod redraw;
 pub mod refusal;
 pub mod role;

@@ -13,6 +13,12 @@ pub struct CutList {
 }
 
 impl CutList {
+    pub fn of(list: SetList) -> Self
+        ensures { λ r. ⌜ r .list ≡ list ⌝ }
+    {
+        CutList { list }
+    }
+
     pub fn new() -> Self
         ensures { λ r. ⌜ drawing (r .list) ≡ blank ⌝ }
     {

@@ -13,6 +13,12 @@ pub struct PathList {
 }
 
 impl PathList {
+    pub fn of(list: SetList) -> Self
+        ensures { λ r. ⌜ r .list ≡ list ⌝ }
+    {
+        PathList { list }
+    }
+
     pub fn new() -> Self
         ensures { λ r. ⌜ drawing (r .list) ≡ blank ⌝ }
     {
