@@ -1,0 +1,3 @@
+// Scripts: strings of bytes that drive a station, and the lines that answer them.
+pub mod command;
+pub mod fault;
