@@ -2,3 +2,4 @@
 pub mod command;
 pub mod fault;
 pub mod reader;
+pub mod line;
