@@ -3,3 +3,6 @@ pub mod command;
 pub mod fault;
 pub mod reader;
 pub mod line;
+
+#[cfg(test)]
+mod tests;
