@@ -67,6 +67,6 @@ module _ {W : Type 0} (took : W → List ℕ → W → Type 0) where
         shows-is took f h (Ok tt) _ _ (ap (λ ys. then (Some word) (row shown ys)) (take-all i xs all))
         (shows-then took f g h (Ok tt) (Ok tt) (Some word) (row shown (take i xs)) (λ ok. ok) first rest)
 
-  -- a row of numbers
+  -- of numbers the row is known
   pub row-numbers : (f g : Formatter W) (r : Result (Unit {0}) Error) (word : List ℕ) (ns : List ℕ) → Shows took f r (then (Some word) (row (λ n. Some (decimal n)) ns)) g → Prints took f r (word ++ spaced ns) g
   row-numbers f g r word ns = shows-is took f g r _ (Some (word ++ spaced ns)) (ap (then (Some word)) (row-spaced ns))

@@ -11,6 +11,7 @@ abbrev pub spaced : List ℕ → List ℕ
 spaced [] = []
 spaced (n ∷ ns) = codes " " ++ decimal n ++ spaced ns
 
+-- cuts by their letter and their sets; a fault by its mark, where the command begins and its number
 abbrev pub text : Line → List ℕ
 text (Cuts sets) = codes "M" ++ spaced (sets .now)
 text (Fault place number) = codes "!" ++ spaced (place ∷ number ∷ [])

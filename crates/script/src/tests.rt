@@ -45,6 +45,9 @@ fn prints_each_line(rt: LibcRuntime) -> Result<(), Fail> {
     check_eq(cuts.as_str(), "M 3 14 21 24")?;
     let none = Line::Cuts(&[]).to_string(rt.alloc())?;
     check_eq(none.as_str(), "M")?;
-    let fault = Line::Fault { place: 31, number: 14 }.to_string(rt.alloc())?;
+    let fault = Line::Fault {
+        place: 31,
+        number: 14,
+    }.to_string(rt.alloc())?;
     check_eq(fault.as_str(), "! 31 14")
 }
