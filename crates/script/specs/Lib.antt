@@ -1,0 +1,5 @@
+pub mod Faults
+pub mod Reading
+pub mod Readers
+pub mod Lines
+pub mod Rows

@@ -1,0 +1,8 @@
+// One command of a script with its operands, for the reader and whoever runs it.
+#[derive(Clone, Copy, Debug, PartialEq, Eq)]
+pub enum Command {
+    Start { order: u8 },
+    Add { set: u16 },
+    Open,
+    Cuts,
+}

@@ -1,0 +1,7 @@
+// Scripts: strings of bytes that drive a station, and the lines that answer them.
+pub mod command;
+pub mod fault;
+pub mod line;
+pub mod reader;
+#[cfg(test)]
+mod tests;
