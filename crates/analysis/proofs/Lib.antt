@@ -5,3 +5,4 @@ pub mod Bounds
 pub mod Redrawing
 pub mod Least
 pub mod Duality
+pub mod Agreement

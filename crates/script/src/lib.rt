@@ -3,5 +3,8 @@ pub mod command;
 pub mod fault;
 pub mod line;
 pub mod reader;
+pub mod reply;
+pub mod run;
+pub mod stage;
 #[cfg(test)]
 mod tests;
