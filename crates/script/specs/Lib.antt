@@ -5,4 +5,6 @@ pub mod Lines
 pub mod Rows
 pub mod Stages
 pub mod Language
+pub mod Printing
+pub mod Scripts
 pub mod Runs

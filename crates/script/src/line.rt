@@ -1,24 +1,38 @@
 // The lines that a script prints, for whoever prints them.
 ghost use Rattle.std.specs.declared.option.Option.the-variants.{Some};
 ghost use Rattle.std.specs.Written.{Shows, then};
-ghost use Rattle.script.specs.Lines.{text};
+ghost use Rattle.script.specs.Lines.{cutsText, faultText};
 ghost use Rattle.script.specs.Rows.{row};
 use std::fmt;
 
+// The minimal cuts of a station.
 #[derive(Clone, Copy)]
-pub enum Line<'a> {
-    Cuts(&'a [u16]),
-    Fault { place: usize, number: u8 },
+pub struct CutsLine<'a> {
+    pub sets: &'a [u16],
 }
 
-pub impl fmt::Display for Line<'_> as LineDisplay {
-    ghost shown = { λ line. Some (text line) };
+// A fault, by the place of the command's first byte and its number.
+#[derive(Clone, Copy)]
+pub struct FaultLine {
+    pub place: usize,
+    pub number: u8,
+}
+
+pub impl fmt::Display for CutsLine<'_> as CutsLineDisplay {
+    ghost shown = { λ line. Some (cutsText (line .sets .now)) };
 
     fn fmt<W: fmt::Write>(&self, f: &mut fmt::Formatter<W>) -> fmt::Result {
-        match self {
-            Line::Cuts(sets) => put_row(f, "M", sets),
-            Line::Fault { place, number } => write!(f, "! {place} {number}"),
-        }
+        put_row(f, "M", self.sets)
+    }
+}
+
+pub impl fmt::Display for FaultLine as FaultLineDisplay {
+    ghost shown = { λ line. Some (faultText (line .place) (line .number)) };
+
+    fn fmt<W: fmt::Write>(&self, f: &mut fmt::Formatter<W>) -> fmt::Result {
+        let place = self.place;
+        let number = self.number;
+        write!(f, "! {place} {number}")
     }
 }
 

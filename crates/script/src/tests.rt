@@ -5,8 +5,10 @@ use crate::command::CommandPartialEq;
 use crate::fault::Malformed;
 use crate::fault::MalformedDebug;
 use crate::fault::MalformedPartialEq;
-use crate::line::Line;
-use crate::line::LineDisplay;
+use crate::line::CutsLine;
+use crate::line::CutsLineDisplay;
+use crate::line::FaultLine;
+use crate::line::FaultLineDisplay;
 use crate::reader::Reader;
 use std::test::*;
 
@@ -41,11 +43,13 @@ fn takes_no_more_than_the_longest() -> Result<(), Fail> {
 
 #[test]
 fn prints_each_line(rt: LibcRuntime) -> Result<(), Fail> {
-    let cuts = Line::Cuts(&[3, 14, 21, 24]).to_string(rt.alloc())?;
+    let cuts = CutsLine {
+        sets: &[3, 14, 21, 24],
+    }.to_string(rt.alloc())?;
     check_eq(cuts.as_str(), "M 3 14 21 24")?;
-    let none = Line::Cuts(&[]).to_string(rt.alloc())?;
+    let none = CutsLine { sets: &[] }.to_string(rt.alloc())?;
     check_eq(none.as_str(), "M")?;
-    let fault = Line::Fault {
+    let fault = FaultLine {
         place: 31,
         number: 14,
     }.to_string(rt.alloc())?;

@@ -1,0 +1,68 @@
+-- What a whole script prints and leaves. Assumes nothing.
+use mathlib.Core.Bool.{cond}
+use mathlib.Core.List.{List, [], _∷_, _++_}
+use Prim.Native.Nat.{ℕ, zero, suc, _+_}
+use lib.Dec.{ltb}
+use lib.ListN.{length, drop}
+use Rattle.std.specs.declared.option.Option.{Option}
+use Rattle.std.specs.declared.option.Option.the-variants.{None, Some}
+use Rattle.std.specs.declared.result.Result.{Result}
+use Rattle.std.specs.declared.result.Result.the-variants.{Ok, Err}
+use Rattle.script.specs.declared.command.Command.{Command}
+use Rattle.script.specs.declared.fault.Fault.{Fault}
+use Rattle.script.specs.declared.fault.Malformed.{Malformed}
+use Rattle.script.specs.declared.fault.Malformed.the-variants.{Long}
+use Rattle.script.specs.Faults.{numberOf, malformedNumber}
+use Rattle.script.specs.Language.{Progress, Answer, silent, sets, step}
+use Rattle.script.specs.Lines.{cutsText, faultText}
+use Rattle.script.specs.Reading.{frontOf}
+
+-- a command and the place of its first byte
+pub record Placed : Type 0 where
+  pub place : ℕ
+  pub command : Command
+
+-- the commands of a script, and the reading fault that ends it, if one does
+pub record Read : Type 0 where
+  pub commands : List Placed
+  pub fault : Option (ℕ × Malformed)
+
+-- the commands that stand from a place on; each takes a byte at least, so there are no more than bytes
+abbrev pub readFrom : ℕ → ℕ → List ℕ → Read
+readFrom zero place bytes = record { commands = []; fault = None }
+readFrom (suc most) place bytes =
+    elim (frontOf bytes) [
+      | Ok None ↦ record { commands = []; fault = None }
+      | Ok (Some front) ↦
+          let rest = readFrom most (place + front .1) (drop (front .1) bytes) in
+          record { commands = record { place = place; command = front .0 } ∷ rest .commands; fault = rest .fault }
+      | Err why ↦ record { commands = []; fault = Some (place, why) }
+    ]
+
+-- the line that answers a command, if it has one
+abbrev pub lineOf : ℕ → Result Answer Fault → List (List ℕ)
+lineOf place (Ok silent) = []
+lineOf place (Ok (sets xs)) = cutsText xs ∷ []
+lineOf place (Err fault) = faultText place (numberOf fault) ∷ []
+
+-- the lines that commands print one after another, each finding what the earlier ones made
+abbrev pub linesOf : ℕ → List Placed → Progress → List (List ℕ)
+linesOf room [] p = []
+linesOf room (c ∷ cs) p = let now = step room (c .command) p in lineOf (c .place) (now .0) ++ linesOf room cs (now .1)
+
+-- what then stands
+abbrev pub leaves : ℕ → List Placed → Progress → Progress
+leaves room [] p = p
+leaves room (c ∷ cs) p = leaves room cs (step room (c .command) p .1)
+
+abbrev pub faultLine : Option (ℕ × Malformed) → List (List ℕ)
+faultLine None = []
+faultLine (Some at) = faultText (at .0) (malformedNumber (at .1)) ∷ []
+
+-- a script that is too long is not begun
+abbrev pub scriptOf : List ℕ → Read
+scriptOf bytes = cond (ltb 4096 (length bytes)) (record { commands = []; fault = Some (4096, Long) }) (readFrom (length bytes) 0 bytes)
+
+-- the lines of a script that finds p, with so many places lent
+abbrev pub scriptLines : ℕ → List ℕ → Progress → List (List ℕ)
+scriptLines room bytes p = linesOf room (scriptOf bytes .commands) p ++ faultLine (scriptOf bytes .fault)
