@@ -8,3 +8,4 @@ pub mod Language
 pub mod Printing
 pub mod Scripts
 pub mod Runs
+pub mod Transcripts

@@ -1,9 +1,9 @@
 -- What a whole script prints and leaves. Assumes nothing.
 use mathlib.Core.Bool.{cond}
 use mathlib.Core.List.{List, [], _∷_, _++_}
-use Prim.Native.Nat.{ℕ, zero, suc, _+_}
+use Prim.Native.Nat.{ℕ, zero, suc, _+_, _-_}
 use lib.Dec.{ltb}
-use lib.ListN.{length, drop}
+use lib.ListN.{length}
 use Rattle.std.specs.declared.option.Option.{Option}
 use Rattle.std.specs.declared.option.Option.the-variants.{None, Some}
 use Rattle.std.specs.declared.result.Result.{Result}
@@ -27,17 +27,18 @@ pub record Read : Type 0 where
   pub commands : List Placed
   pub fault : Option (ℕ × Malformed)
 
--- the commands that stand from a place on; each takes a byte at least, so there are no more than bytes
+-- by what stands at a place: nothing, a command and then what follows its bytes, or a fault
+abbrev pub continued : ℕ → Result (Option (Command × ℕ)) Malformed → (ℕ → Read) → Read
+continued place (Ok None) following = record { commands = []; fault = None }
+continued place (Ok (Some front)) following =
+    let rest = following (front .1) in record { commands = record { place = place; command = front .0 } ∷ rest .commands; fault = rest .fault }
+continued place (Err why) following = record { commands = []; fault = Some (place, why) }
+
+-- the commands in bytes that begin at a place, once some bytes are passed over
 abbrev pub readFrom : ℕ → ℕ → List ℕ → Read
-readFrom zero place bytes = record { commands = []; fault = None }
-readFrom (suc most) place bytes =
-    elim (frontOf bytes) [
-      | Ok None ↦ record { commands = []; fault = None }
-      | Ok (Some front) ↦
-          let rest = readFrom most (place + front .1) (drop (front .1) bytes) in
-          record { commands = record { place = place; command = front .0 } ∷ rest .commands; fault = rest .fault }
-      | Err why ↦ record { commands = []; fault = Some (place, why) }
-    ]
+readFrom pass place [] = record { commands = []; fault = None }
+readFrom (suc pass) place (b ∷ bytes) = readFrom pass (place + 1) bytes
+readFrom zero place (b ∷ bytes) = continued place (frontOf (b ∷ bytes)) (λ size. readFrom (size - 1) (place + 1) bytes)
 
 -- the line that answers a command, if it has one
 abbrev pub lineOf : ℕ → Result Answer Fault → List (List ℕ)
@@ -61,8 +62,4 @@ faultLine (Some at) = faultText (at .0) (malformedNumber (at .1)) ∷ []
 
 -- a script that is too long is not begun
 abbrev pub scriptOf : List ℕ → Read
-scriptOf bytes = cond (ltb 4096 (length bytes)) (record { commands = []; fault = Some (4096, Long) }) (readFrom (length bytes) 0 bytes)
-
--- the lines of a script that finds p, with so many places lent
-abbrev pub scriptLines : ℕ → List ℕ → Progress → List (List ℕ)
-scriptLines room bytes p = linesOf room (scriptOf bytes .commands) p ++ faultLine (scriptOf bytes .fault)
+scriptOf bytes = cond (ltb 4096 (length bytes)) (record { commands = []; fault = Some (4096, Long) }) (readFrom 0 0 bytes)

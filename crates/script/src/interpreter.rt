@@ -5,15 +5,63 @@ ghost use Rattle.std.specs.Vec.{made};
 ghost use Rattle.script.specs.Language.{step};
 ghost use Rattle.script.specs.Printing.{Prints};
 ghost use Rattle.script.specs.Runs.{progress};
-ghost use Rattle.script.specs.Scripts.{lineOf};
+ghost use Rattle.script.specs.Readers.{unread};
+ghost use Rattle.script.specs.Scripts.{lineOf, readFrom, scriptOf};
+ghost use Rattle.script.specs.Transcripts.{Interpreted};
 use crate::command::Command;
 use crate::line::CutsLine;
 use crate::line::CutsLineDisplay;
 use crate::line::FaultLine;
 use crate::line::FaultLineDisplay;
 use crate::output::Output;
+use crate::reader::LONGEST;
+use crate::reader::Reader;
 use crate::reply::Reply;
 use crate::run::Run;
+
+// Answers what `out` answers where a line could not be printed, and then stops.
+pub fn interpret<O: Output>(
+    run: &mut Run,
+    bytes: &[u8],
+    places: &mut [u16],
+    out: &mut O,
+) -> Result<(), O::Error>
+    ensures { λ r. ⌜ made r (λ _. Interpreted (O·Output .printed) (length (now (places .entry))) (scriptOf (now (bytes .entry))) (progress (now (run .entry))) (now (out .entry)) (progress (now (run .exit))) (now (out .exit))) ⌝ }
+{
+    match Reader::new(bytes) {
+        Ok(mut reader) => each_command(run, &mut reader, places, out),
+        Err(why) => {
+            let number = why.number();
+            out.print(
+                &FaultLine {
+                    place: LONGEST,
+                    number,
+                },
+            )
+        }
+    }
+}
+
+fn each_command<O: Output>(
+    run: &mut Run,
+    reader: &mut Reader,
+    places: &mut [u16],
+    out: &mut O,
+) -> Result<(), O::Error>
+    ensures { λ r. ⌜ made r (λ _. Interpreted (O·Output .printed) (length (now (places .entry))) (readFrom 0 (now (reader .entry) .place) (unread (now (reader .entry)))) (progress (now (run .entry))) (now (out .entry)) (progress (now (run .exit))) (now (out .exit))) ⌝ }
+{
+    loop {
+        let place = reader.place();
+        match reader.next() {
+            Ok(None) => return Ok(()),
+            Ok(Some(command)) => answer(run, place, command, places, out)?,
+            Err(why) => {
+                let number = why.number();
+                return out.print(&FaultLine { place, number });
+            }
+        }
+    }
+}
 
 fn answer<O: Output>(
     run: &mut Run,

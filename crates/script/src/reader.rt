@@ -10,7 +10,7 @@ use crate::command::Command;
 use crate::fault::Malformed;
 
 // The most bytes that a script may have.
-const LONGEST: usize = 4096;
+pub const LONGEST: usize = 4096;
 
 #[derive(Drop)]
 pub struct Reader<'a> {
