@@ -1,2 +1,5 @@
 pub mod Rising
 pub mod Sets
+pub mod Counts
+pub mod PathNumbers
+pub mod Placing

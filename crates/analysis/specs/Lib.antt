@@ -1,3 +1,6 @@
 pub mod Refusals
 pub mod Minimal
 pub mod Listing
+pub mod Places
+pub mod Counts
+pub mod PathNumbers

@@ -3,3 +3,4 @@ pub mod listing;
 pub mod minimal;
 pub mod refusal;
 pub mod role;
+pub mod tally;

@@ -1,0 +1,13 @@
+-- Counting and adding along a list. Assumes nothing.
+use mathlib.Core.Bool.{Bool, cond}
+use mathlib.Core.List.{List, [], _∷_}
+use Prim.Native.Nat.{ℕ, _+_}
+
+-- how many of the listed pass a test
+abbrev pub count : {A : Type 0} → (A → Bool) → List A → ℕ
+count test [] = 0
+count test (x ∷ xs) = cond (test x) 1 0 + count test xs
+
+abbrev pub total : List ℕ → ℕ
+total [] = 0
+total (x ∷ xs) = x + total xs
