@@ -3,3 +3,5 @@ pub mod Sets
 pub mod Counts
 pub mod PathNumbers
 pub mod Placing
+pub mod Orders
+pub mod Once

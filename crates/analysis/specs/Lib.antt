@@ -4,3 +4,4 @@ pub mod Listing
 pub mod Places
 pub mod Counts
 pub mod PathNumbers
+pub mod Orders
