@@ -5,3 +5,6 @@ pub mod PathNumbers
 pub mod Placing
 pub mod Orders
 pub mod Once
+pub mod Mending
+pub mod PathSplit
+pub mod Survivors
