@@ -2,12 +2,11 @@
 use mathlib.Core.Path.{_≡_, refl, sym, ap, ap₂, _∙_}
 use mathlib.Core.Bool.{Bool, true, false, cond, _&&_}
 use mathlib.Core.List.{List, [], _∷_, _++_, map}
-use mathlib.Core.Logic.{⊎-elim}
 use Prim.Native.Nat.{ℕ, zero, suc, _+_, _*_, _≤_, _<_}
-use native.Mathlib.Nat.{mul-zero, mul-add}
+use native.Mathlib.Nat.{mul-zero, mul-add, add-zero, add-suc, suc-add}
 use native.Mathlib.Omega.{arith}
-use Rattle.std.proofs.shelf.Tests.{cases-bool}
-use Rattle.analysis.specs.Counts.{count}
+use lib.ListN.{length}
+use Rattle.analysis.specs.Counts.{count, total}
 use Rattle.std.specs.Joined.{joined}
 use Rattle.analysis.specs.Minimal.{rising}
 use Rattle.analysis.specs.Orders.{Each}
@@ -61,6 +60,23 @@ module _ {A : Type 0} (P : A → Type 0) where
   each-implies Q implies [] hs = tt
   each-implies Q implies (x ∷ xs) hs = (implies x (hs .0), each-implies Q implies xs (hs .1))
 
+pub each-both : {A : Type 0} (P Q R : A → Type 0) → ((x : A) → P x → Q x → R x) → (xs : List A) → Each P xs → Each Q xs → Each R xs
+each-both P Q R both [] hs ks = tt
+each-both P Q R both (x ∷ xs) hs ks = (both x (hs .0) (ks .0), each-both P Q R both xs (hs .1) (ks .1))
+
+-- a count that two others share out
+pub count-shared : {A : Type 0} (f g h : A → Bool) (xs : List A) → Each (λ x. once-if (f x) + once-if (g x) ≡ once-if (h x)) xs → count f xs + count g xs ≡ count h xs
+count-shared f g h [] hs = refl
+count-shared f g h (x ∷ xs) hs = omega (arith, hs .0, count-shared f g h xs (hs .1))
+
+pub count-same : {A : Type 0} (f g : A → Bool) (xs : List A) → Each (λ x. f x ≡ g x) xs → count f xs ≡ count g xs
+count-same f g [] hs = refl
+count-same f g (x ∷ xs) hs = ap₂ (λ b n. once-if b + n) (hs .0) (count-same f g xs (hs .1))
+
+pub count-each : {A : Type 0} (xs : List A) → count (λ _. true) xs ≡ length xs
+count-each [] = refl
+count-each (x ∷ xs) = omega (arith, count-each xs)
+
 -- ---- counts joined over a list whose members each bring the same
 
 module _ {A B : Type 0} (P : A → Type 0) (f : A → List B) (test : B → Bool) where
@@ -69,3 +85,7 @@ module _ {A B : Type 0} (P : A → Type 0) (f : A → List B) (test : B → Bool
   count-joined a b F G brings (x ∷ xs) hs =
       count-append test (f x) (joined f xs)
       ∙ omega (arith, brings x (hs .0), count-joined a b F G brings xs (hs .1), mul-add a (cond (F x) 1 0) (count F xs), mul-add b (cond (G x) 1 0) (count G xs))
+
+pub total-next : (f : ℕ → ℕ) (first many : ℕ) → total (map f (rising first (suc many))) ≡ total (map f (rising first many)) + f (first + many)
+total-next f first zero = omega (arith, ap f (add-zero first))
+total-next f first (suc many) = omega (arith, total-next f (suc first) many, ap f (suc-add first many ∙ sym (add-suc first many)))

@@ -8,3 +8,5 @@ pub mod Once
 pub mod Mending
 pub mod PathSplit
 pub mod Survivors
+pub mod Failing
+pub mod Entries
