@@ -10,3 +10,4 @@ pub mod PathSplit
 pub mod Survivors
 pub mod Failing
 pub mod Entries
+pub mod Factorials

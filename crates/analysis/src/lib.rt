@@ -3,4 +3,5 @@ pub mod listing;
 pub mod minimal;
 pub mod refusal;
 pub mod role;
+pub mod signature;
 pub mod tally;
