@@ -6,11 +6,10 @@ use Prim.Native.Nat.{ℕ, zero, suc, _+_, _*_, _≤_, _<_}
 use native.Mathlib.Nat.{mul-zero, mul-add, add-zero, add-suc, suc-add}
 use native.Mathlib.Omega.{arith}
 use lib.ListN.{length}
-use Rattle.analysis.specs.Counts.{count, total}
+use Rattle.analysis.specs.Counts.{count, total, Each}
 use Rattle.std.specs.Joined.{joined}
 use Rattle.analysis.specs.Minimal.{rising}
-use Rattle.analysis.specs.Orders.{Each}
-use Rattle.analysis.proofs.Rising.{upFrom, up-next, up-end}
+use Rattle.analysis.proofs.Rising.{upFrom, up-next}
 
 -- what a test adds to a count
 abbrev pub once-if : Bool → ℕ

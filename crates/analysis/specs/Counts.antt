@@ -1,4 +1,4 @@
--- Counting and adding along a list. Assumes nothing.
+-- Counting and adding along a list, and what holds of each of its members. Assumes nothing.
 use mathlib.Core.Bool.{Bool, cond}
 use mathlib.Core.List.{List, [], _∷_}
 use Prim.Native.Nat.{ℕ, _+_}
@@ -11,3 +11,7 @@ count test (x ∷ xs) = cond (test x) 1 0 + count test xs
 abbrev pub total : List ℕ → ℕ
 total [] = 0
 total (x ∷ xs) = x + total xs
+
+abbrev pub Each : {A : Type 0} → (A → Type 0) → List A → Type 0
+Each P [] = Unit {0}
+Each P (x ∷ xs) = P x × Each P xs
