@@ -6,3 +6,14 @@ pub mod Redrawing
 pub mod Least
 pub mod Duality
 pub mod Agreement
+pub mod Counts
+pub mod PathNumbers
+pub mod Placing
+pub mod Orders
+pub mod Once
+pub mod Mending
+pub mod PathSplit
+pub mod Survivors
+pub mod Failing
+pub mod Entries
+pub mod Factorials

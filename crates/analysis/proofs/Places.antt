@@ -13,7 +13,7 @@ use Rattle.analysis.specs.declared.refusal.Refusal.the-variants.{TooFewPlaces}
 use Rattle.std.specs.declared.option.Option.{Option}
 use Rattle.std.specs.declared.option.Option.the-variants.{Some, None}
 use Rattle.analysis.specs.Listing.{first, others}
-use Rattle.analysis.specs.Places.{laid, filled}
+use Rattle.analysis.specs.Places.{laid, doneOrTooFew}
 
 pub length-laid : (xs places : List ℕ) → length (laid xs places) ≡ length places
 length-laid [] places = refl
@@ -75,8 +75,8 @@ written-all all before coming places done w e =
     (omega (arith, w .within), w .holds ∙ ap (λ l. laid l before) (take-all done all end))
 
 -- the answer to a list that was written whole, or as far as the places reach
-pub filled-enough : (all places : List ℕ) → length all ≤ length places → Ok (length all) ≡ filled all places
+pub filled-enough : (all places : List ℕ) → length all ≤ length places → Ok (length all) ≡ doneOrTooFew (length all) places
 filled-enough all places h = sym (cond-true (leb (length all) (length places)) _ _ (le-leb (length all) (length places) h))
 
-pub filled-short : (all places : List ℕ) → length places < length all → Err (TooFewPlaces (length all)) ≡ filled all places
+pub filled-short : (all places : List ℕ) → length places < length all → Err (TooFewPlaces (length all)) ≡ doneOrTooFew (length all) places
 filled-short all places h = sym (cond-false (leb (length all) (length places)) _ _ (lt-leb (length all) (length places) h))

@@ -1,4 +1,4 @@
--- Answers written into lent places. Assumes nothing.
+-- What a call writes into lent places, and what it answers. Assumes nothing.
 use mathlib.Core.Bool.{cond}
 use mathlib.Core.List.{List, [], _∷_}
 use Prim.Native.Nat.{ℕ}
@@ -9,12 +9,16 @@ use Rattle.std.specs.declared.result.Result.the-variants.{Ok, Err}
 use Rattle.analysis.specs.declared.refusal.Refusal.{Refusal}
 use Rattle.analysis.specs.declared.refusal.Refusal.the-variants.{TooFewPlaces}
 
--- the places with a list in the first of them, as far as they reach; later ones are as they were
+-- the first places hold the list, as far as they reach; later ones are as they were
 abbrev pub laid : List ℕ → List ℕ → List ℕ
 laid [] places = places
 laid (x ∷ xs) [] = []
 laid (x ∷ xs) (p ∷ places) = x ∷ laid xs places
 
--- how many values there are, or that there are fewer places than that
-abbrev pub filled : List ℕ → List ℕ → Result ℕ Refusal
-filled xs places = cond (leb (length xs) (length places)) (Ok (length xs)) (Err (TooFewPlaces (length xs)))
+-- the whole list in the first places, or nothing written where they are too few
+abbrev pub laidWhole : List ℕ → List ℕ → List ℕ
+laidWhole xs places = cond (leb (length xs) (length places)) (laid xs places) places
+
+-- as many as were needed, or a refusal that says how many are
+abbrev pub doneOrTooFew : ℕ → List ℕ → Result ℕ Refusal
+doneOrTooFew needed places = cond (leb needed (length places)) (Ok needed) (Err (TooFewPlaces needed))

@@ -5,3 +5,5 @@ pub mod minimal_sets;
 pub mod redraw;
 pub mod refusal;
 pub mod role;
+pub mod signature;
+pub mod tally;

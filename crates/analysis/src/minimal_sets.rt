@@ -1,8 +1,8 @@
 // All minimal paths or all minimal cuts of a structure, into lent places.
 ghost use mathlib.Core.Path.{_≡_};
-ghost use lib.ListN.{set};
+ghost use lib.ListN.{length, set};
 ghost use Rattle.analysis.specs.Minimal.{minimalSets};
-ghost use Rattle.analysis.specs.Places.{laid, filled};
+ghost use Rattle.analysis.specs.Places.{laid, doneOrTooFew};
 use crate::listing::Listing;
 use crate::refusal::Refusal;
 use crate::role::Role;
@@ -14,7 +14,7 @@ pub fn minimal_sets<S: Structure>(
     role: Role,
     places: &mut [u16],
 ) -> Result<usize, Refusal>
-    ensures answer { λ r. ⌜ r ≡ filled (minimalSets role (S·Structure .meaning (now (structure .entry)))) (now (places .entry)) ⌝ }
+    ensures answer { λ r. ⌜ r ≡ doneOrTooFew (length (minimalSets role (S·Structure .meaning (now (structure .entry))))) (now (places .entry)) ⌝ }
     ensures places { λ _. ⌜ now (places .exit) ≡ laid (minimalSets role (S·Structure .meaning (now (structure .entry)))) (now (places .entry)) ⌝ }
 {
     let mut listing = Listing::new(role);

@@ -12,7 +12,7 @@ use Rattle.std.specs.declared.result.Result.{Result}
 use Rattle.std.specs.declared.result.Result.the-variants.{Ok, Err}
 use Rattle.analysis.specs.declared.refusal.Refusal.{Refusal}
 use Rattle.analysis.specs.declared.refusal.Refusal.the-variants.{TooFewPlaces}
-use Rattle.analysis.specs.Places.{laid, filled}
+use Rattle.analysis.specs.Places.{laid, doneOrTooFew}
 use Rattle.script.specs.declared.fault.Fault.{Fault}
 use Rattle.script.specs.declared.fault.Fault.the-variants.{Station}
 use Rattle.script.specs.declared.fault.StationRefusal.the-variants.{Analysis}
@@ -27,7 +27,7 @@ abbrev Filling : Type 0
 Filling = Result ℕ Refusal
 
 -- a list that found room is answered by what the places hold
-pub found-room : (xs places : List ℕ) (count : ℕ) → _≡_ {A = Filling} (Ok count) (filled xs places) → (_≡_ {A = Result Answer Fault} (Ok (sets (take count (laid xs places)))) (ifRoom (length places) xs)) × (count ≤ length places)
+pub found-room : (xs places : List ℕ) (count : ℕ) → _≡_ {A = Filling} (Ok count) (doneOrTooFew (length xs) places) → (_≡_ {A = Result Answer Fault} (Ok (sets (take count (laid xs places)))) (ifRoom (length places) xs)) × (count ≤ length places)
 found-room xs places count e =
     ⊎-elim
     (λ (fits : leb (length xs) (length places) ≡ true).
@@ -44,7 +44,7 @@ found-room xs places count e =
     never p = let z : _≡_ {A = ℕ} 0 1 = cc in omega arith
 
 -- one that found none is answered by the refusal
-pub found-none : (xs places : List ℕ) (why : Refusal) → _≡_ {A = Filling} (Err why) (filled xs places) → _≡_ {A = Result Answer Fault} (Err (Station (Analysis why))) (ifRoom (length places) xs)
+pub found-none : (xs places : List ℕ) (why : Refusal) → _≡_ {A = Filling} (Err why) (doneOrTooFew (length xs) places) → _≡_ {A = Result Answer Fault} (Err (Station (Analysis why))) (ifRoom (length places) xs)
 found-none xs places why e =
     ⊎-elim
     (λ (fits : leb (length xs) (length places) ≡ true). absurd (never (e ∙ cond-true (leb (length xs) (length places)) _ _ fits)))

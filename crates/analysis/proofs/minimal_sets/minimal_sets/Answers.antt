@@ -5,7 +5,7 @@ use lib.ListN.{length}
 use Rattle.std.specs.declared.result.Result.the-variants.{Ok, Err}
 use Rattle.analysis.specs.declared.refusal.Refusal.the-variants.{TooFewPlaces}
 use Rattle.analysis.specs.Minimal.{minimalSets}
-use Rattle.analysis.specs.Places.{laid, filled}
+use Rattle.analysis.specs.Places.{laid}
 use Rattle.analysis.proofs.Bounds.{few-minimal}
 use Rattle.analysis.proofs.Places.{written-none, written-more, written-all, filled-enough, filled-short}
 use Rattle.analysis.proofs.minimal_sets.minimal_sets.Given as given

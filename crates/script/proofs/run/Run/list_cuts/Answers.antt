@@ -11,7 +11,7 @@ use Rattle.structure.specs.Meanings.{Same}
 use Rattle.structure.specs.Tables.{tabled}
 use Rattle.analysis.specs.declared.role.Role.the-variants.{Cut}
 use Rattle.analysis.specs.Minimal.{minimalSets}
-use Rattle.analysis.specs.Places.{laid, filled}
+use Rattle.analysis.specs.Places.{laid, doneOrTooFew}
 use Rattle.analysis.proofs.Agreement.{same-minimal-sets}
 use Rattle.analysis.proofs.Places.{length-laid}
 use Rattle.script.specs.declared.run.Run.{Run}
@@ -32,14 +32,14 @@ returns-in-Break-count c =
     let cuts = table-cuts (c .args .self .now) (c .pre) in
     let held = c .minimal-sets .ensures .places ∙ ap (λ l. laid l (c .args .places .now)) cuts in
     let out = err-from-errBy (c .from-residual .result) (c .from-residual .ensures .1) in
-    let told = found-none (cutsOf (progress (c .args .self .now))) (c .args .places .now) (c .in-Break-count .field-0 .0) (c .in-Break-count .ensures tt .answer ∙ ap (λ l. filled l (c .args .places .now)) cuts) in
+    let told = found-none (cutsOf (progress (c .args .self .now))) (c .args .places .now) (c .in-Break-count .field-0 .0) (c .in-Break-count .ensures tt .answer ∙ ap (λ l. doneOrTooFew (length l) (c .args .places .now)) cuts) in
     rw (out .1, out .2) (record { answer = told; places = held; within = tt })
 
 pub returns : need.returns
 returns c =
     let cuts = table-cuts (c .args .self .now) (c .pre) in
     let held = c .minimal-sets .ensures .places ∙ ap (λ l. laid l (c .args .places .now)) cuts in
-    let told = found-room (cutsOf (progress (c .args .self .now))) (c .args .places .now) (c .in-Continue-count .count) (c .in-Continue-count .ensures tt .answer ∙ ap (λ l. filled l (c .args .places .now)) cuts) in
+    let told = found-room (cutsOf (progress (c .args .self .now))) (c .args .places .now) (c .in-Continue-count .count) (c .in-Continue-count .ensures tt .answer ∙ ap (λ l. doneOrTooFew (length l) (c .args .places .now)) cuts) in
     record {
       answer = ap (λ l. Ok (sets (take (c .in-Continue-count .count) l))) held ∙ told .0;
       places = held;
