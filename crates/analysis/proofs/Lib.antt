@@ -17,3 +17,4 @@ pub mod Survivors
 pub mod Failing
 pub mod Entries
 pub mod Factorials
+pub mod CountAgreement
