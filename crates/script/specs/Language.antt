@@ -9,12 +9,15 @@ use Rattle.std.specs.declared.result.Result.the-variants.{Ok, Err}
 use Rattle.structure.specs.declared.refusal.Refusal.{Refusal}
 use Rattle.structure.specs.Drawings.{Drawing, blank, started, added}
 use Rattle.structure.specs.Kinds.{pathList}
+use Rattle.structure.specs.Meanings.{Meaning}
 use Rattle.analysis.specs.declared.refusal.Refusal.the-variants.{TooFewPlaces}
 use Rattle.analysis.specs.declared.role.Role.the-variants.{Cut}
 use Rattle.analysis.specs.Minimal.{minimalSets}
-use Rattle.analysis.specs.Places.{laid}
+use Rattle.analysis.specs.Orders.{signatureOf}
+use Rattle.analysis.specs.PathNumbers.{pathNumbers}
+use Rattle.analysis.specs.Places.{laid, laidWhole}
 use Rattle.script.specs.declared.command.Command.{Command}
-use Rattle.script.specs.declared.command.Command.the-variants.{Start, Add, Open, Cuts}
+use Rattle.script.specs.declared.command.Command.the-variants.{Start, Add, Open, Tally, Signature, Cuts}
 use Rattle.script.specs.declared.fault.Fault.{Fault}
 use Rattle.script.specs.declared.fault.Fault.the-variants.{Stage as wrong-stage, Station}
 use Rattle.script.specs.declared.fault.StationRefusal.the-variants.{Structure, Analysis}
@@ -30,16 +33,23 @@ pub record Progress : Type 0 where
 abbrev pub begun : Progress
 begun = record { stage = Blank; drawn = blank }
 
--- what an accepted command answers: nothing to print, or sets of parts
+-- how many places are lent for sets, and how many for numbers
+pub record Room : Type 0 where
+  pub sets : ℕ
+  pub numbers : ℕ
+
+-- what an accepted command answers: nothing to print, or numbers
 pub data Answer : Type 0 where
   silent : Answer
-  sets : List ℕ → Answer
+  tally signature cuts : List ℕ → Answer
 
 -- the one stage in which a command is taken
 abbrev pub takenIn : Command → Stage
 takenIn (Start order) = Blank
 takenIn (Add set) = in-drawing
 takenIn Open = in-drawing
+takenIn Tally = opened
+takenIn Signature = opened
 takenIn Cuts = opened
 
 abbrev pub same : Stage → Stage → Bool
@@ -58,28 +68,48 @@ abbrev pub drawing-on : Progress → Result (Unit {0}) Refusal → Drawing → R
 drawing-on p (Ok done) new = (Ok silent, record { stage = in-drawing; drawn = new })
 drawing-on p (Err why) new = (Err (Station (Structure why)), p)
 
--- the minimal cuts of the station that was opened
-abbrev pub cutsOf : Progress → List ℕ
-cutsOf p = minimalSets Cut (pathList (p .drawn))
+-- the station that was opened
+abbrev pub station : Progress → Meaning
+station p = pathList (p .drawn)
 
--- an answer of several sets, if there is room for them
-abbrev pub ifRoom : ℕ → List ℕ → Result Answer Fault
-ifRoom room xs = cond (leb (length xs) room) (Ok (sets xs)) (Err (Station (Analysis (TooFewPlaces (length xs)))))
+abbrev pub cutsOf : Progress → List ℕ
+cutsOf p = minimalSets Cut (station p)
+
+-- an answer of several numbers, if there is room for them
+abbrev pub ifRoom : ℕ → List ℕ → Result (List ℕ) Fault
+ifRoom room xs = cond (leb (length xs) room) (Ok xs) (Err (Station (Analysis (TooFewPlaces (length xs)))))
+
+abbrev pub answered : (List ℕ → Answer) → Result (List ℕ) Fault → Result Answer Fault
+answered said (Ok xs) = Ok (said xs)
+answered said (Err fault) = Err fault
 
 -- what a command that is taken answers, and what then stands
-abbrev pub carried : ℕ → Command → Progress → Result Answer Fault × Progress
+abbrev pub carried : Room → Command → Progress → Result Answer Fault × Progress
 carried room (Start order) p = drawing-on p (started order (p .drawn) .0) (started order (p .drawn) .1)
 carried room (Add set) p = drawing-on p (added set (p .drawn) .0) (added set (p .drawn) .1)
 carried room Open p = (Ok silent, record { stage = opened; drawn = p .drawn })
-carried room Cuts p = (ifRoom room (cutsOf p), p)
+carried room Tally p = (answered tally (ifRoom (room .numbers) (pathNumbers (station p))), p)
+carried room Signature p = (answered signature (ifRoom (room .numbers) (signatureOf (station p))), p)
+carried room Cuts p = (answered cuts (ifRoom (room .sets) (cutsOf p)), p)
 
--- the same of any command, where so many places are lent
-abbrev pub step : ℕ → Command → Progress → Result Answer Fault × Progress
+-- the same of any command
+abbrev pub step : Room → Command → Progress → Result Answer Fault × Progress
 step room command p = cond (same (p .stage) (takenIn command)) (carried room command p) (Err wrong-stage, p)
 
--- what the lent places then hold: the sets of a list that was taken, else what they held
-abbrev pub listedInto : Command → Progress → List ℕ → List ℕ
-listedInto (Start order) p places = places
-listedInto (Add set) p places = places
-listedInto Open p places = places
-listedInto Cuts p places = cond (same (p .stage) opened) (laid (cutsOf p) places) places
+-- what the places lent for sets then hold: the sets of a list that was taken, else what they held
+abbrev pub setsAfter : Command → Progress → List ℕ → List ℕ
+setsAfter (Start order) p places = places
+setsAfter (Add set) p places = places
+setsAfter Open p places = places
+setsAfter Tally p places = places
+setsAfter Signature p places = places
+setsAfter Cuts p places = cond (same (p .stage) opened) (laid (cutsOf p) places) places
+
+-- what the places lent for numbers then hold: those of a tally or signature that found room, else what they held
+abbrev pub numbersAfter : Command → Progress → List ℕ → List ℕ
+numbersAfter (Start order) p places = places
+numbersAfter (Add set) p places = places
+numbersAfter Open p places = places
+numbersAfter Tally p places = cond (same (p .stage) opened) (laidWhole (pathNumbers (station p)) places) places
+numbersAfter Signature p places = cond (same (p .stage) opened) (laidWhole (signatureOf (station p)) places) places
+numbersAfter Cuts p places = places

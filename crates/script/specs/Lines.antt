@@ -9,6 +9,13 @@ abbrev pub spaced : List ℕ → List ℕ
 spaced [] = []
 spaced (n ∷ ns) = codes " " ++ decimal n ++ spaced ns
 
+-- path numbers, and a signature: their letter, then each number
+abbrev pub tallyText : List ℕ → List ℕ
+tallyText numbers = codes "T" ++ spaced numbers
+
+abbrev pub signatureText : List ℕ → List ℕ
+signatureText numbers = codes "S" ++ spaced numbers
+
 -- cuts: their letter, then each set
 abbrev pub cutsText : List ℕ → List ℕ
 cutsText sets = codes "M" ++ spaced sets

@@ -12,7 +12,7 @@ use Rattle.std.specs.declared.result.Result.{Result}
 use Rattle.std.specs.declared.result.Result.the-variants.{Ok, Err}
 use Rattle.std.specs.shelf.Digits.{number}
 use Rattle.script.specs.declared.command.Command.{Command}
-use Rattle.script.specs.declared.command.Command.the-variants.{Start, Add, Open, Cuts}
+use Rattle.script.specs.declared.command.Command.the-variants.{Start, Add, Open, Tally, Signature, Cuts}
 use Rattle.script.specs.declared.fault.Malformed.{Malformed}
 use Rattle.script.specs.declared.fault.Malformed.the-variants.{Unknown, Short}
 
@@ -32,6 +32,8 @@ forms =
     record { letter = byte "N"; operands = 1; means = λ bytes. Start (number 256 bytes) }
     ∷ record { letter = byte "P"; operands = 2; means = λ bytes. Add (number 256 bytes) }
     ∷ record { letter = byte "O"; operands = 0; means = λ bytes. Open }
+    ∷ record { letter = byte "T"; operands = 0; means = λ bytes. Tally }
+    ∷ record { letter = byte "S"; operands = 0; means = λ bytes. Signature }
     ∷ record { letter = byte "M"; operands = 0; means = λ bytes. Cuts }
     ∷ []
 

@@ -13,8 +13,8 @@ use Rattle.script.specs.declared.fault.Fault.{Fault}
 use Rattle.script.specs.declared.fault.Malformed.{Malformed}
 use Rattle.script.specs.declared.fault.Malformed.the-variants.{Long}
 use Rattle.script.specs.Faults.{numberOf, malformedNumber}
-use Rattle.script.specs.Language.{Progress, Answer, silent, sets, step}
-use Rattle.script.specs.Lines.{cutsText, faultText}
+use Rattle.script.specs.Language.{Progress, Room, Answer, silent, tally, signature, cuts, step}
+use Rattle.script.specs.Lines.{tallyText, signatureText, cutsText, faultText}
 use Rattle.script.specs.Reading.{frontOf}
 
 -- a command and the place of its first byte
@@ -43,16 +43,18 @@ readFrom zero place (b ∷ bytes) = continued place (frontOf (b ∷ bytes)) (λ 
 -- the line that answers a command, if it has one
 abbrev pub lineOf : ℕ → Result Answer Fault → List (List ℕ)
 lineOf place (Ok silent) = []
-lineOf place (Ok (sets xs)) = cutsText xs ∷ []
+lineOf place (Ok (tally xs)) = tallyText xs ∷ []
+lineOf place (Ok (signature xs)) = signatureText xs ∷ []
+lineOf place (Ok (cuts xs)) = cutsText xs ∷ []
 lineOf place (Err fault) = faultText place (numberOf fault) ∷ []
 
 -- the lines that commands print one after another, each finding what the earlier ones made
-abbrev pub linesOf : ℕ → List Placed → Progress → List (List ℕ)
+abbrev pub linesOf : Room → List Placed → Progress → List (List ℕ)
 linesOf room [] p = []
 linesOf room (c ∷ cs) p = let now = step room (c .command) p in lineOf (c .place) (now .0) ++ linesOf room cs (now .1)
 
 -- what then stands
-abbrev pub leaves : ℕ → List Placed → Progress → Progress
+abbrev pub leaves : Room → List Placed → Progress → Progress
 leaves room [] p = p
 leaves room (c ∷ cs) p = leaves room cs (step room (c .command) p .1)
 

@@ -4,5 +4,7 @@ pub enum Command {
     Start { order: u8 },
     Add { set: u16 },
     Open,
+    Tally,
+    Signature,
     Cuts,
 }

@@ -1,7 +1,7 @@
 // The lines that a script prints, for whoever prints them.
 ghost use Rattle.std.specs.declared.option.Option.the-variants.{Some};
 ghost use Rattle.std.specs.Written.{Shows, then};
-ghost use Rattle.script.specs.Lines.{cutsText, faultText};
+ghost use Rattle.script.specs.Lines.{cutsText, faultText, signatureText, tallyText};
 ghost use Rattle.script.specs.Rows.{row};
 use std::fmt;
 
@@ -9,6 +9,18 @@ use std::fmt;
 #[derive(Clone, Copy)]
 pub struct CutsLine<'a> {
     pub sets: &'a [u16],
+}
+
+// The path numbers of a station.
+#[derive(Clone, Copy)]
+pub struct TallyLine<'a> {
+    pub numbers: &'a [u64],
+}
+
+// The signature of a station.
+#[derive(Clone, Copy)]
+pub struct SignatureLine<'a> {
+    pub numbers: &'a [u64],
 }
 
 // A fault, by the place of the command's first byte and its number.
@@ -23,6 +35,22 @@ pub impl fmt::Display for CutsLine<'_> as CutsLineDisplay {
 
     fn fmt<W: fmt::Write>(&self, f: &mut fmt::Formatter<W>) -> fmt::Result {
         put_row(f, "M", self.sets)
+    }
+}
+
+pub impl fmt::Display for TallyLine<'_> as TallyLineDisplay {
+    ghost shown = { λ line. Some (tallyText (line .numbers .now)) };
+
+    fn fmt<W: fmt::Write>(&self, f: &mut fmt::Formatter<W>) -> fmt::Result {
+        put_row(f, "T", self.numbers)
+    }
+}
+
+pub impl fmt::Display for SignatureLine<'_> as SignatureLineDisplay {
+    ghost shown = { λ line. Some (signatureText (line .numbers .now)) };
+
+    fn fmt<W: fmt::Write>(&self, f: &mut fmt::Formatter<W>) -> fmt::Result {
+        put_row(f, "S", self.numbers)
     }
 }
 

@@ -72,6 +72,8 @@ fn front(bytes: &[u8]) -> Result<Option<(Command, usize)>, Malformed>
             Ok(Some((Command::Add { set }, 3)))
         }
         [b'O', ..] => Ok(Some((Command::Open, 1))),
+        [b'T', ..] => Ok(Some((Command::Tally, 1))),
+        [b'S', ..] => Ok(Some((Command::Signature, 1))),
         [b'M', ..] => Ok(Some((Command::Cuts, 1))),
         [b'N' | b'P', ..] => Err(Malformed::Short),
         [_, ..] => Err(Malformed::Unknown),

@@ -10,7 +10,10 @@ use std::io;
 use std::io::Read;
 
 // As many minimal sets as 16 parts can have.
-const PLACES: usize = 12870;
+const SETS: usize = 12870;
+
+// As many entries as the signature of 16 parts has.
+const NUMBERS: usize = 18;
 
 // One byte more than a script may have, so that a longer one shows.
 const INPUT: usize = 4097;
@@ -48,13 +51,15 @@ fn read_input(rt: &LibcRuntime, input: &mut [u8]) -> io::Result<usize>
 
 fn main(rt: LibcRuntime) -> io::Result<()> {
     let mut input = [0u8; INPUT];
-    let mut places = [0u16; PLACES];
+    let mut sets = [0u16; SETS];
+    let mut numbers = [0u64; NUMBERS];
     let filled = read_input(&rt, &mut input)?;
     let mut run = Run::new();
     interpret(
         &mut run,
         &input[0..filled],
-        &mut places,
+        &mut sets,
+        &mut numbers,
         &mut Console { rt: &rt },
     )
 }

@@ -9,7 +9,7 @@ use Rattle.script.proofs.interpreter.each_command.Given as given
 
 abbrev pub Inv-loop-command : given.InvT-loop-command
 Inv-loop-command g l =
-    Going (g .O·Output .printed) (length (l .entry .places)) (readFrom 0 (l .entry .reader .place) (unread (l .entry .reader))) (progress (l .entry .run)) (l .entry .out)
+    Going (g .O·Output .printed) (record { sets = length (l .entry .sets); numbers = length (l .entry .numbers) }) (readFrom 0 (l .entry .reader .place) (unread (l .entry .reader))) (progress (l .entry .run)) (l .entry .out)
     (readFrom 0 (l .reader .place) (unread (l .reader))) (progress (l .run)) (l .out)
 
 abbrev pub μ-loop-command : given.MeasureT-loop-command
