@@ -8,5 +8,3 @@ pub mod reader;
 pub mod reply;
 pub mod run;
 pub mod stage;
-#[cfg(test)]
-mod tests;

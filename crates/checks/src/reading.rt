@@ -1,15 +1,15 @@
 // Each command, each fault and each line once.
-use crate::command::Command;
-use crate::command::CommandDebug;
-use crate::command::CommandPartialEq;
-use crate::fault::Malformed;
-use crate::fault::MalformedDebug;
-use crate::fault::MalformedPartialEq;
-use crate::line::CutsLine;
-use crate::line::CutsLineDisplay;
-use crate::line::FaultLine;
-use crate::line::FaultLineDisplay;
-use crate::reader::Reader;
+use script::command::Command;
+use script::command::CommandDebug;
+use script::command::CommandPartialEq;
+use script::fault::Malformed;
+use script::fault::MalformedDebug;
+use script::fault::MalformedPartialEq;
+use script::line::CutsLine;
+use script::line::CutsLineDisplay;
+use script::line::FaultLine;
+use script::line::FaultLineDisplay;
+use script::reader::Reader;
 use std::test::*;
 
 #[test]
