@@ -1,7 +1,7 @@
 use mathlib.Core.Path.{_≡_, refl, sym, ap, _∙_}
 use Prim.Native.Nat.{ℕ, _≤_}
 use native.Mathlib.Omega.{arith}
-use lib.ListN.{length}
+use lib.ListN.{length, set}
 use Rattle.std.specs.declared.result.Result.the-variants.{Ok, Err}
 use Rattle.analysis.specs.declared.refusal.Refusal.the-variants.{TooFewPlaces}
 use Rattle.analysis.specs.Minimal.{minimalSets}
@@ -21,7 +21,8 @@ add-needed g c =
 
 pub loop-found-again : need.loop-found-again
 loop-found-again g c =
-    written-more _ _ _ _ _ _ (c .loop-found .needed) (c .in-Some .found) (c .loop-found .inv) (sym (c .in-Some .ensures tt .item)) (c .next .ensures .rest) (c .put .ensures)
+    let stored : c .put .last .places ≡ set (c .loop-found .places) (c .loop-found .needed) (c .in-Some .found) = cc in
+    written-more _ _ _ _ _ _ (c .loop-found .needed) (c .in-Some .found) (c .loop-found .inv) (sym (c .in-Some .ensures tt .item)) (c .next .ensures .rest) stored
 
 pub returns-then-needed-places : need.returns-then-needed-places
 returns-then-needed-places g c =

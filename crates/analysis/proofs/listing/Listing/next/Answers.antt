@@ -22,7 +22,9 @@ returns-then-is-minimal g c =
     let at = walked _ (m .order) k (c .order .ensures) (g .S·Structure·met .sized (c .args .structure .now) .1) (c .loop-self-test .taken) in
     let found = ap (minimal (c .loop-self .self .role) m) (sym (mod-eq-of-lt (at .0))) ∙ sym (c .if-is-minimal .ensures tt) in
     let here = sym (c .loop-self .inv) ∙ keep-up-finds (minimal (c .loop-self .self .role) m) (2 ^ m .order) k (at .0) found in
-    record { item = sym (ap first here); rest = sym (ap others here) }
+    let front = ap first here in
+    let back = ap others here in
+    record { item = cc; rest = cc }
 
 pub loop-self-again : need.loop-self-again
 loop-self-again g c =

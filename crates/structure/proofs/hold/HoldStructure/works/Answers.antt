@@ -1,4 +1,4 @@
-use mathlib.Core.Path.{_≡_, ap, _∙_}
+use mathlib.Core.Path.{_≡_}
 use Prim.Native.Nat.{_%_, _^_}
 use native.Mathlib.Nat.{mod-lt}
 use lib.Pow.{pow-pos}
@@ -10,7 +10,6 @@ use Rattle.structure.proofs.hold.HoldStructure.works.Needs as need
 pub returns : need.returns
 returns g c =
     let m = g .S·Structure .meaning (c .args .self .now .below) in
-    let s = c .args .state in
     let set = c .args .self .now .failed in
-    let asked = c .clear .ensures ∙ ap (cleared set) (c .known .ensures .value ∙ ap (λ n. s % 2 ^ n) (c .order .ensures)) in
-    c .works .ensures ∙ ap (λ t. m .works (t % 2 ^ m .order)) asked ∙ asked-whole m _ (cleared-below set _ (m .order) (mod-lt s (pow-pos (m .order))))
+    let state = c .args .state % 2 ^ m .order in
+    cc (asked-whole m (cleared set state) (cleared-below set state (m .order) (mod-lt (c .args .state) (pow-pos (m .order)))))

@@ -4,5 +4,4 @@ use Rattle.structure.proofs.set_list.SetList.add.Needs as need
 
 pub returns : need.returns
 returns c =
-    add-taken (c .args .self .now .order) (c .args .self .now .count) (c .args .set) (c .args .self .now .sets) (omega arith)
-    (c .if-at-ge-CAPACITY .left) (c .if-set-eq0 .left) (omega arith)
+    cc (add-taken (c .args .self .now .order) (c .args .self .now .count) (c .args .set) (c .args .self .now .sets) (omega arith) (omega arith) (omega arith) (omega arith))

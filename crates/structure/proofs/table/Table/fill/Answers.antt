@@ -31,7 +31,7 @@ loop-state-again g c =
     let m = g .S·Structure .meaning (c .args .structure .now) in
     let s = c .loop-state .state in
     let at = walked _ (m .order) s (c .order-order .ensures) (g .S·Structure·met .sized (c .args .structure .now) .1) (c .loop-state-test .taken) in
-    let answer = c .works .ensures ∙ asked-whole m s (at .0) in
+    let answer : c .works .result ≡ m .works s = cc (asked-whole m s (at .0)) in
     elim (c .if-works .came) [
       | then-works w ↦ subst (λ l. Filled m l (s + 1)) (sym (w .words-is ∙ with-bit (c .loop-state .words) s)) (filled-yes m (c .loop-state .words) s (c .loop-state .inv) (at .1) (sym answer ∙ w .if-works .taken))
       | else-works w ↦ subst (λ l. Filled m l (s + 1)) (sym (w .words-is)) (filled-no m (c .loop-state .words) s (c .loop-state .inv) (sym answer ∙ w .if-works .left))
