@@ -6,3 +6,9 @@ pub mod Redrawing
 pub mod Least
 pub mod Duality
 pub mod Agreement
+pub mod Mending
+pub mod Walks
+pub mod StateSums
+pub mod Branches
+pub mod Slots
+pub mod Weighing

@@ -3,3 +3,5 @@ pub mod Minimal
 pub mod Listing
 pub mod Places
 pub mod Redrawing
+pub mod Weighed
+pub mod Walks

@@ -5,3 +5,4 @@ pub mod minimal_sets;
 pub mod redraw;
 pub mod refusal;
 pub mod role;
+pub mod weigh;
