@@ -18,3 +18,8 @@ pub mod Failing
 pub mod Entries
 pub mod Factorials
 pub mod CountAgreement
+pub mod Walks
+pub mod StateSums
+pub mod Branches
+pub mod Slots
+pub mod Weighing

@@ -6,3 +6,5 @@ pub mod Redrawing
 pub mod Counts
 pub mod PathNumbers
 pub mod Orders
+pub mod Weighed
+pub mod Walks

@@ -1,4 +1,4 @@
-// What is asked of any structure: its minimal paths and cuts, and drawings made from them.
+// What is asked of any structure: minimal paths and cuts, drawings made from them, counts, and sums in any weights.
 pub mod listing;
 pub mod minimal;
 pub mod minimal_sets;
@@ -7,3 +7,4 @@ pub mod refusal;
 pub mod role;
 pub mod signature;
 pub mod tally;
+pub mod weigh;

@@ -4,6 +4,10 @@ ghost use Rattle.analysis.specs.Refusals.{numberOf};
 
 #[derive(Clone, Copy, Debug, PartialEq, Eq)]
 pub enum Refusal {
+    UpWeights,
+    DownWeights,
+    TooFewSlots,
+    Part,
     TooFewPlaces { needed: usize },
 }
 
@@ -12,6 +16,10 @@ impl Refusal {
         ensures { λ r. ⌜ r ≡ numberOf self ⌝ }
     {
         match self {
+            Refusal::UpWeights => 6,
+            Refusal::DownWeights => 7,
+            Refusal::TooFewSlots => 8,
+            Refusal::Part => 10,
             Refusal::TooFewPlaces { .. } => 16,
         }
     }
