@@ -1,7 +1,6 @@
-use lib.Chars.{codes}
+use borrow.Author.Needs.{needs}
 use Rattle.script.proofs.Rows.{row-numbers}
 use Rattle.script.proofs.line.TallyLineDisplay.fmt.Needs as need
 
 pub returns : need.returns
-returns g c =
-    row-numbers (g .W·Write .took) (c .args .f .now) (c .put-row .last .f) (c .put-row .result) (codes "T") (c .args .self .now .numbers .now) (c .put-row .ensures)
+returns g c = search (needs, row-numbers)

@@ -2,6 +2,7 @@ use mathlib.Core.Path.{_≡_}
 use Prim.Native.Nat.{_%_, _^_}
 use native.Mathlib.Nat.{mod-lt}
 use lib.Pow.{pow-pos}
+use borrow.Author.Needs.{needs}
 use Rattle.structure.specs.States.{cleared}
 use Rattle.structure.proofs.Digits.{cleared-below}
 use Rattle.structure.proofs.Layers.{asked-whole}
@@ -12,4 +13,5 @@ returns g c =
     let m = g .S·Structure .meaning (c .args .self .now .below) in
     let set = c .args .self .now .failed in
     let state = c .args .state % 2 ^ m .order in
-    cc (asked-whole m (cleared set state) (cleared-below set state (m .order) (mod-lt (c .args .state) (pow-pos (m .order)))))
+    let whole = asked-whole m (cleared set state) (cleared-below set state (m .order) (mod-lt (c .args .state) (pow-pos (m .order)))) in
+    search needs
