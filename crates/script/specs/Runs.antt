@@ -23,18 +23,18 @@ said (Ok (Cuts count)) sets numbers = Ok (cuts (take count sets))
 said (Err fault) sets numbers = Err fault
 
 -- what a reply counts is there
-abbrev pub Within : Result Reply Fault → ℕ → ℕ → Type 0
-Within (Ok Silent) sets numbers = Unit {0}
-Within (Ok (Tally count)) sets numbers = count ≤ numbers
-Within (Ok (Signature count)) sets numbers = count ≤ numbers
-Within (Ok (Cuts count)) sets numbers = count ≤ sets
-Within (Err fault) sets numbers = Unit {0}
+abbrev pub Inside : Result Reply Fault → ℕ → ℕ → Type 0
+Inside (Ok Silent) sets numbers = Unit {0}
+Inside (Ok (Tally count)) sets numbers = count ≤ numbers
+Inside (Ok (Signature count)) sets numbers = count ≤ numbers
+Inside (Ok (Cuts count)) sets numbers = count ≤ sets
+Inside (Err fault) sets numbers = Unit {0}
 
 -- the numbers that a count and the places tell together
 abbrev pub counted : Result ℕ Fault → List ℕ → Result (List ℕ) Fault
 counted (Ok count) places = Ok (take count places)
 counted (Err fault) places = Err fault
 
-abbrev pub Counts : Result ℕ Fault → ℕ → Type 0
-Counts (Ok count) room = count ≤ room
-Counts (Err fault) room = Unit {0}
+abbrev pub CountInside : Result ℕ Fault → ℕ → Type 0
+CountInside (Ok count) room = count ≤ room
+CountInside (Err fault) room = Unit {0}

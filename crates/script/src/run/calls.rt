@@ -6,7 +6,7 @@ ghost use Rattle.analysis.specs.Orders.{signatureOf};
 ghost use Rattle.analysis.specs.PathNumbers.{pathNumbers};
 ghost use Rattle.analysis.specs.Places.{laid, laidWhole};
 ghost use Rattle.script.specs.Language.{begun, cutsOf, ifRoom, numbersAfter, setsAfter, station, step};
-ghost use Rattle.script.specs.Runs.{Counts, counted, progress, said, Within};
+ghost use Rattle.script.specs.Runs.{CountInside, counted, progress, said, Inside};
 ghost use Rattle.script.specs.Stages.{isOpen};
 use super::Run;
 use crate::command::Command;
@@ -48,7 +48,7 @@ impl Run {
         ensures answer { λ r. ⌜ said r (now (sets .exit)) (now (numbers .exit)) ≡ step (record { sets = length (now (sets .entry)); numbers = length (now (numbers .entry)) }) command (progress (now (self .entry))) .0 ⌝ }
         ensures sets { λ _. ⌜ now (sets .exit) ≡ setsAfter command (progress (now (self .entry))) (now (sets .entry)) ⌝ }
         ensures numbers { λ _. ⌜ now (numbers .exit) ≡ numbersAfter command (progress (now (self .entry))) (now (numbers .entry)) ⌝ }
-        ensures within { λ r. ⌜ Within r (length (now (sets .exit))) (length (now (numbers .exit))) ⌝ }
+        ensures within { λ r. ⌜ Inside r (length (now (sets .exit))) (length (now (numbers .exit))) ⌝ }
     {
         match (self.stage, command) {
             (Stage::Blank, Command::Start { order }) => {
@@ -76,7 +76,7 @@ impl Run {
         requires { ⌜ isOpen (now self .stage) ≡ true ⌝ }
         ensures answer { λ r. ⌜ counted r (now (places .exit)) ≡ ifRoom (length (now (places .entry))) (pathNumbers (station (progress (now (self .entry))))) ⌝ }
         ensures places { λ _. ⌜ now (places .exit) ≡ laidWhole (pathNumbers (station (progress (now (self .entry))))) (now (places .entry)) ⌝ }
-        ensures within { λ r. ⌜ Counts r (length (now (places .exit))) ⌝ }
+        ensures within { λ r. ⌜ CountInside r (length (now (places .exit))) ⌝ }
     {
         let count = tally(&self.opened, places)?;
         Ok(count)
@@ -86,7 +86,7 @@ impl Run {
         requires { ⌜ isOpen (now self .stage) ≡ true ⌝ }
         ensures answer { λ r. ⌜ counted r (now (places .exit)) ≡ ifRoom (length (now (places .entry))) (signatureOf (station (progress (now (self .entry))))) ⌝ }
         ensures places { λ _. ⌜ now (places .exit) ≡ laidWhole (signatureOf (station (progress (now (self .entry))))) (now (places .entry)) ⌝ }
-        ensures within { λ r. ⌜ Counts r (length (now (places .exit))) ⌝ }
+        ensures within { λ r. ⌜ CountInside r (length (now (places .exit))) ⌝ }
     {
         let count = signature(&self.opened, places)?;
         Ok(count)
@@ -96,7 +96,7 @@ impl Run {
         requires { ⌜ isOpen (now self .stage) ≡ true ⌝ }
         ensures answer { λ r. ⌜ counted r (now (places .exit)) ≡ ifRoom (length (now (places .entry))) (cutsOf (progress (now (self .entry)))) ⌝ }
         ensures places { λ _. ⌜ now (places .exit) ≡ laid (cutsOf (progress (now (self .entry)))) (now (places .entry)) ⌝ }
-        ensures within { λ r. ⌜ Counts r (length (now (places .exit))) ⌝ }
+        ensures within { λ r. ⌜ CountInside r (length (now (places .exit))) ⌝ }
     {
         let count = minimal_sets(&self.opened, Role::Cut, places)?;
         Ok(count)
