@@ -12,3 +12,4 @@ pub mod StateSums
 pub mod Branches
 pub mod Slots
 pub mod Weighing
+pub mod Swings

@@ -5,3 +5,4 @@ pub mod Places
 pub mod Redrawing
 pub mod Weighed
 pub mod Walks
+pub mod Swings

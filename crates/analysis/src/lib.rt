@@ -5,4 +5,5 @@ pub mod minimal_sets;
 pub mod redraw;
 pub mod refusal;
 pub mod role;
+pub mod swing;
 pub mod weigh;
