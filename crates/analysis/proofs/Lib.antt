@@ -23,3 +23,4 @@ pub mod StateSums
 pub mod Branches
 pub mod Slots
 pub mod Weighing
+pub mod Swings

@@ -8,3 +8,4 @@ pub mod PathNumbers
 pub mod Orders
 pub mod Weighed
 pub mod Walks
+pub mod Swings

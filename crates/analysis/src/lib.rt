@@ -7,4 +7,5 @@ pub mod refusal;
 pub mod role;
 pub mod signature;
 pub mod tally;
+pub mod swing;
 pub mod weigh;
