@@ -13,3 +13,4 @@ pub mod Branches
 pub mod Slots
 pub mod Weighing
 pub mod Swings
+pub mod Verdicts

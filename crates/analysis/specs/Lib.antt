@@ -6,3 +6,4 @@ pub mod Redrawing
 pub mod Weighed
 pub mod Walks
 pub mod Swings
+pub mod Verdicts

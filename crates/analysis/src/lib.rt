@@ -1,4 +1,5 @@
 // What is asked of any structure: its minimal paths and cuts, and drawings made from them.
+pub mod coherence;
 pub mod listing;
 pub mod minimal;
 pub mod minimal_sets;
@@ -6,4 +7,5 @@ pub mod redraw;
 pub mod refusal;
 pub mod role;
 pub mod swing;
+pub mod verdict;
 pub mod weigh;
