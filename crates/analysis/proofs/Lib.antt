@@ -24,3 +24,4 @@ pub mod Branches
 pub mod Slots
 pub mod Weighing
 pub mod Swings
+pub mod Verdicts

@@ -9,3 +9,4 @@ pub mod Orders
 pub mod Weighed
 pub mod Walks
 pub mod Swings
+pub mod Verdicts

@@ -1,4 +1,6 @@
 // What is asked of any structure: minimal paths and cuts, drawings made from them, counts, and sums in any weights.
+// What is asked of any structure: its minimal paths and cuts, and drawings made from them.
+pub mod coherence;
 pub mod listing;
 pub mod minimal;
 pub mod minimal_sets;
@@ -8,4 +10,5 @@ pub mod role;
 pub mod signature;
 pub mod tally;
 pub mod swing;
+pub mod verdict;
 pub mod weigh;
