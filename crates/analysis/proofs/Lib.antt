@@ -23,3 +23,5 @@ pub mod StateSums
 pub mod Branches
 pub mod Slots
 pub mod Weighing
+pub mod SizeProducts
+pub mod TallyWeighing

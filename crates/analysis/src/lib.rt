@@ -8,3 +8,4 @@ pub mod role;
 pub mod signature;
 pub mod tally;
 pub mod weigh;
+pub mod weighed_tally;
