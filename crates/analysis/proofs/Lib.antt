@@ -25,3 +25,5 @@ pub mod Slots
 pub mod Weighing
 pub mod Swings
 pub mod Verdicts
+pub mod SizeProducts
+pub mod TallyWeighing

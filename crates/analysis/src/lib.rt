@@ -12,3 +12,4 @@ pub mod tally;
 pub mod swing;
 pub mod verdict;
 pub mod weigh;
+pub mod weighed_tally;
