@@ -1,5 +1,4 @@
 // What is asked of any structure: minimal paths and cuts, drawings made from them, counts, and sums in any weights.
-// What is asked of any structure: its minimal paths and cuts, and drawings made from them.
 pub mod coherence;
 pub mod listing;
 pub mod minimal;
