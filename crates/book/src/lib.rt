@@ -1,0 +1,2 @@
+// A station's ratings, prices and withdrawals, and the figures that follow from them.
+pub mod refusal;
