@@ -1,3 +1,4 @@
 // A station's ratings, prices and withdrawals, and the figures that follow from them.
 pub mod refusal;
 pub mod row;
+pub mod sheet;

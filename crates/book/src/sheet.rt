@@ -1,0 +1,17 @@
+// An order and a row for each part, up to 16; no sheet that can exist has a rating over 65,536.
+ghost use Prim.Native.Nat.{ℕ, _≤_};
+ghost use lib.ListN.{getD};
+ghost use Rattle.book.specs.Rows.{blankRow};
+use crate::row::Row;
+use structure::structure::MAX_ORDER;
+
+pub mod calls;
+
+#[derive(Clone, Copy)]
+pub struct Sheet {
+    order: usize,
+    rows: [Row; MAX_ORDER],
+    ghost low: { 1 ≤ order },
+    ghost high: { order ≤ 16 },
+    ghost bounded: { (i : ℕ) → getD rows i blankRow .rating ≤ 65536 },
+}
