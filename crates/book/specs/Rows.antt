@@ -36,6 +36,11 @@ rowWithdrawRefused row = cond (row .withdrawn) (Some Withdrawn) None
 abbrev pub rowPutBackRefused : Row → Option Refusal
 rowPutBackRefused row = cond (row .withdrawn) None (Some InService)
 
+-- the answer of a call that only looks
+abbrev pub allowed : Option Refusal → Result (Unit {0}) Refusal
+allowed None = Ok tt
+allowed (Some why) = Err why
+
 -- ---- what each call makes of the row, and its answer
 
 abbrev pub withRating : ℕ → Row → Row

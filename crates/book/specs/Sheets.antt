@@ -1,4 +1,5 @@
 -- What a sheet holds, and what each call makes of it. Assumes nothing.
+use mathlib.Core.Path.{_≡_}
 use mathlib.Core.Bool.{Bool, true, false, cond, _&&_}
 use mathlib.Core.List.{List, map}
 use Prim.Native.Nat.{ℕ, zero, suc, _+_, _^_}
@@ -8,11 +9,12 @@ use Rattle.std.specs.declared.option.Option.{Option}
 use Rattle.std.specs.declared.option.Option.the-variants.{Some, None}
 use Rattle.std.specs.declared.result.Result.{Result}
 use Rattle.structure.specs.Drawings.{orderRefused as structureRefused}
+use Rattle.structure.specs.States.{digit}
 use Rattle.book.specs.declared.refusal.Refusal.{Refusal}
 use Rattle.book.specs.declared.refusal.Refusal.the-variants.{Part, Structure}
 use Rattle.book.specs.declared.row.Row.{Row}
 use Rattle.book.specs.declared.sheet.Sheet.{Sheet}
-use Rattle.book.specs.Rows.{blankRow, unless, rowRateRefused, rowPriceRefused, rowWithdrawRefused, rowPutBackRefused, withRating, withPrice, withMark}
+use Rattle.book.specs.Rows.{blankRow, countsAsFailed, unless, rowRateRefused, rowPriceRefused, rowWithdrawRefused, rowPutBackRefused, withRating, withPrice, withMark}
 
 -- an order, and a row for each part; those from the order on are of no part
 pub record Page : Type 0 where
@@ -28,6 +30,23 @@ rowOf part p = getD (p .rows) part blankRow
 -- n parts, nothing written yet
 abbrev pub blankPage : ℕ → Page
 blankPage n = record { order = n; rows = replicate 16 blankRow }
+
+-- ---- what is read of it
+
+abbrev pub rowIfAny : ℕ → Page → Option Row
+rowIfAny part p = cond (ltb part (p .order)) (Some (rowOf part p)) None
+
+-- of the parts below n, the set of those that count as failed
+abbrev pub failedBelow : ℕ → List Row → ℕ
+failedBelow zero rows = 0
+failedBelow (suc n) rows = failedBelow n rows + cond (countsAsFailed (getD rows n blankRow)) (2 ^ n) 0
+
+abbrev pub failedParts : Page → ℕ
+failedParts p = failedBelow (p .order) (p .rows)
+
+-- the set has just the parts whose row counts as failed
+abbrev pub HasFailed : Page → ℕ → Type 0
+HasFailed p set = (part : ℕ) → digit set part ≡ cond (ltb part (p .order) && countsAsFailed (rowOf part p)) 1 0
 
 -- ---- why each call is refused, first fit first
 

@@ -1,6 +1,6 @@
 // One part's row of a sheet: its rating in 1/65,536, its price, and whether it is withdrawn.
 ghost use mathlib.Core.Path.{_≡_};
-ghost use Rattle.book.specs.Rows.{blankRow, countsAsFailed, ratingInForce, rowRated, rowPriced, rowTakenOut, rowPutBack};
+ghost use Rattle.book.specs.Rows.{blankRow, countsAsFailed, ratingInForce, allowed, rowWithdrawRefused, rowRated, rowPriced, rowTakenOut, rowPutBack};
 use crate::refusal::Refusal;
 
 // The rating of a part that never fails.
@@ -49,12 +49,20 @@ impl Row {
         Ok(())
     }
 
-    pub fn withdraw(&mut self) -> Result<(), Refusal>
-        ensures { λ r. ⌜ (r, now (self .exit)) ≡ rowTakenOut (now (self .entry)) ⌝ }
+    // Answers as `withdraw` would.
+    pub fn check_withdraw(&self) -> Result<(), Refusal>
+        ensures { λ r. ⌜ r ≡ allowed (rowWithdrawRefused (now (self .entry))) ⌝ }
     {
         if self.withdrawn {
             return Err(Refusal::Withdrawn);
         }
+        Ok(())
+    }
+
+    pub fn withdraw(&mut self) -> Result<(), Refusal>
+        ensures { λ r. ⌜ (r, now (self .exit)) ≡ rowTakenOut (now (self .entry)) ⌝ }
+    {
+        self.check_withdraw()?;
         self.withdrawn = true;
         Ok(())
     }
