@@ -18,7 +18,7 @@ use Rattle.book.specs.Sheets.{Page, rowOf, partRefused, changed}
 abbrev pub placed : Page → ℕ → Row → Page
 placed p part row = record { order = p .order; rows = set (p .rows) part row }
 
-placed-same : (p : Page) (part : ℕ) → placed p part (rowOf part p) ≡ p
+pub placed-same : (p : Page) (part : ℕ) → placed p part (rowOf part p) ≡ p
 placed-same p part = ap (λ rows. record { order = p .order; rows = rows }) (set-getD (p .rows) part blankRow)
 
 placed-unless : (p : Page) (part : ℕ) (why : Option Refusal) (new : Row) → (let x = unless why new (rowOf part p) in (x .0, placed p part (x .1))) ≡ unless why (placed p part new) p

@@ -2,3 +2,4 @@
 pub mod refusal;
 pub mod row;
 pub mod sheet;
+pub mod trial;
