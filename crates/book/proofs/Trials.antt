@@ -1,5 +1,5 @@
 -- A part withdrawn and then put back. Assumes nothing.
-use mathlib.Core.Path.{_≡_, refl, sym, ap, _∙_}
+use mathlib.Core.Path.{_≡_, refl, sym, ap, ap₂, _∙_}
 use mathlib.Core.Bool.{Bool, true, false, cond}
 use Prim.Native.Nat.{ℕ, _<_, _≤_}
 use native.Mathlib.Omega.{arith}
@@ -20,7 +20,7 @@ use Rattle.book.specs.Trials.{onTrial, trialOver}
 use Rattle.book.proofs.Sheets.{placed, placed-same}
 
 -- marked, then unmarked, is as before
-pub marked-unmarked : (p : Page) (part : ℕ) → part < p .order → p .order ≤ length (p .rows) → rowOf part p .withdrawn ≡ false → putBack part (changed (withMark true) part p) .1 ≡ p
+marked-unmarked : (p : Page) (part : ℕ) → part < p .order → p .order ≤ length (p .rows) → rowOf part p .withdrawn ≡ false → putBack part (changed (withMark true) part p) .1 ≡ p
 marked-unmarked p part within room free =
     let row = rowOf part p in
     let marked = withMark true row in
@@ -44,6 +44,10 @@ free-to-withdraw : (p : Page) (part : ℕ) → withdrawRefused part p ≡ None �
 free-to-withdraw p part e =
     let free = none-fits (ltb part (p .order)) (rowOf part p .withdrawn) e in (ltb-true part (p .order) (free .0), free .1)
 
-pub trial-ends : (p : Page) (part : ℕ) → p .order ≤ length (p .rows) → trialOver (isOk (takenOut part p .0)) part (onTrial part p) ≡ p
+trial-ends : (p : Page) (part : ℕ) → p .order ≤ length (p .rows) → trialOver (isOk (takenOut part p .0)) part (onTrial part p) ≡ p
 trial-ends p part room =
     tried p part (withdrawRefused part p) (λ e. let free = free-to-withdraw p part e in marked-unmarked p part (free .0) room (free .1))
+
+-- whatever the withdrawal answered, the end of the trial brings the sheet back
+pub back-as-before : (p q : Page) (part : ℕ) (marked : Bool) → p .order ≤ length (p .rows) → q ≡ onTrial part p → marked ≡ isOk (takenOut part p .0) → trialOver marked part q ≡ p
+back-as-before p q part marked room during made = ap₂ (λ m x. trialOver m part x) made during ∙ trial-ends p part room

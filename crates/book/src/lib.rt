@@ -2,4 +2,6 @@
 pub mod refusal;
 pub mod row;
 pub mod sheet;
+#[cfg(test)]
+mod tests;
 pub mod trial;

@@ -1,7 +1,9 @@
 // One part's row of a sheet: its rating in 1/65,536, its price, and whether it is withdrawn.
 ghost use mathlib.Core.Path.{_≡_};
-ghost use Rattle.book.specs.Rows.{blankRow, countsAsFailed, ratingInForce, allowed, rowWithdrawRefused, rowRated, rowPriced, rowTakenOut, rowPutBack};
+ghost use Rattle.book.specs.Rows.{blankRow, allowed, rowWithdrawRefused, rowRated, rowPriced, rowTakenOut, rowPutBack};
 use crate::refusal::Refusal;
+
+pub mod reading;
 
 // The rating of a part that never fails.
 pub const SURE: u32 = 65536;
@@ -16,7 +18,7 @@ pub struct Row {
 }
 
 impl Row {
-    pub fn new() -> Self
+    pub(crate) fn new() -> Self
         ensures { λ r. ⌜ r ≡ blankRow ⌝ }
     {
         Row {
@@ -26,7 +28,7 @@ impl Row {
         }
     }
 
-    pub fn rate(&mut self, rating: u32) -> Result<(), Refusal>
+    pub(crate) fn rate(&mut self, rating: u32) -> Result<(), Refusal>
         ensures { λ r. ⌜ (r, now (self .exit)) ≡ rowRated rating (now (self .entry)) ⌝ }
     {
         if rating > SURE {
@@ -39,7 +41,7 @@ impl Row {
         Ok(())
     }
 
-    pub fn set_price(&mut self, price: u32) -> Result<(), Refusal>
+    pub(crate) fn set_price(&mut self, price: u32) -> Result<(), Refusal>
         ensures { λ r. ⌜ (r, now (self .exit)) ≡ rowPriced price (now (self .entry)) ⌝ }
     {
         if price > MAX_PRICE {
@@ -50,7 +52,7 @@ impl Row {
     }
 
     // Answers as `withdraw` would.
-    pub fn check_withdraw(&self) -> Result<(), Refusal>
+    pub(crate) fn check_withdraw(&self) -> Result<(), Refusal>
         ensures { λ r. ⌜ r ≡ allowed (rowWithdrawRefused (now (self .entry))) ⌝ }
     {
         if self.withdrawn {
@@ -59,7 +61,7 @@ impl Row {
         Ok(())
     }
 
-    pub fn withdraw(&mut self) -> Result<(), Refusal>
+    pub(crate) fn withdraw(&mut self) -> Result<(), Refusal>
         ensures { λ r. ⌜ (r, now (self .exit)) ≡ rowTakenOut (now (self .entry)) ⌝ }
     {
         self.check_withdraw()?;
@@ -67,7 +69,7 @@ impl Row {
         Ok(())
     }
 
-    pub fn put_back(&mut self) -> Result<(), Refusal>
+    pub(crate) fn put_back(&mut self) -> Result<(), Refusal>
         ensures { λ r. ⌜ (r, now (self .exit)) ≡ rowPutBack (now (self .entry)) ⌝ }
     {
         if !self.withdrawn {
@@ -75,23 +77,5 @@ impl Row {
         }
         self.withdrawn = false;
         Ok(())
-    }
-
-    pub fn counts_as_failed(&self) -> bool
-        ensures { λ r. ⌜ r ≡ countsAsFailed (now (self .entry)) ⌝ }
-    {
-        self.withdrawn
-    }
-
-    pub fn rating_in_force(&self) -> u32
-        ensures { λ r. ⌜ r ≡ ratingInForce (now (self .entry)) ⌝ }
-    {
-        self.rating
-    }
-
-    pub fn price(&self) -> u16
-        ensures { λ r. ⌜ r ≡ now (self .entry) .price ⌝ }
-    {
-        self.price
     }
 }

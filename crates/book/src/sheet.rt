@@ -7,6 +7,7 @@ use crate::row::Row;
 use structure::structure::MAX_ORDER;
 
 pub mod calls;
+pub mod reading;
 
 #[derive(Clone, Copy)]
 pub struct Sheet {

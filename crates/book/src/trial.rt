@@ -47,15 +47,3 @@ impl Drop for Trial<'_> {
         }
     }
 }
-
-// A small use, to see the ways out.
-pub fn probe(sheet: &mut Sheet, part: usize) -> u16
-    ensures { λ _. ⌜ page (now (sheet .exit)) ≡ page (now (sheet .entry)) ⌝ }
-{
-    let trial = Trial::begin(sheet, part);
-    let failed = trial.sheet().withdrawn();
-    if failed == 0 {
-        return 1;
-    }
-    failed
-}

@@ -1,10 +1,7 @@
-// Starting a sheet, the calls on one part of it, and reading it.
+// Starting a sheet, and the calls on one part of it.
 ghost use mathlib.Core.Path.{_≡_};
-ghost use mathlib.Core.List.{map};
-ghost use Prim.Native.Nat.{ℕ, _≤_};
-ghost use lib.ListN.{getD};
-ghost use Rattle.book.specs.Rows.{ratingInForce, allowed};
-ghost use Rattle.book.specs.Sheets.{page, blankPage, rowIfAny, failedParts, HasFailed, withdrawRefused, started, rated, priced, takenOut, putBack};
+ghost use Rattle.book.specs.Rows.{allowed};
+ghost use Rattle.book.specs.Sheets.{page, blankPage, withdrawRefused, started, rated, priced, takenOut, putBack};
 use super::Sheet;
 use crate::refusal::Refusal;
 use crate::row::Row;
@@ -68,12 +65,6 @@ impl Sheet {
         self.rows[part].put_back()
     }
 
-    pub fn order(&self) -> usize
-        ensures { λ r. ⌜ r ≡ page (now (self .entry)) .order ⌝ }
-    {
-        self.order
-    }
-
     // Answers as `withdraw` would.
     pub fn check_withdraw(&self, part: usize) -> Result<(), Refusal>
         ensures { λ r. ⌜ r ≡ allowed (withdrawRefused part (page (now (self .entry)))) ⌝ }
@@ -82,39 +73,5 @@ impl Sheet {
             return Err(Refusal::Part);
         }
         self.rows[part].check_withdraw()
-    }
-
-    pub fn row(&self, part: usize) -> Option<Row>
-        ensures { λ r. ⌜ r ≡ rowIfAny part (page (now (self .entry))) ⌝ }
-    {
-        if part >= self.order {
-            return None;
-        }
-        Some(self.rows[part])
-    }
-
-    // The parts that count as failed.
-    pub fn withdrawn(&self) -> u16
-        ensures value { λ r. ⌜ r ≡ failedParts (page (now (self .entry))) ⌝ }
-        ensures parts { λ r. ⌜ HasFailed (page (now (self .entry))) r ⌝ }
-    {
-        let mut set = 0;
-        for part in 0..self.order {
-            if self.rows[part].counts_as_failed() {
-                set += 1 << part;
-            }
-        }
-        set
-    }
-
-    pub fn ratings(&self) -> [u32; MAX_ORDER]
-        ensures value { λ r. ⌜ r ≡ map ratingInForce (page (now (self .entry)) .rows) ⌝ }
-        ensures bounded { λ r. ⌜ ((i : ℕ) → getD r i 0 ≤ 65536) ⌝ }
-    {
-        let mut ratings = [0; MAX_ORDER];
-        for part in 0..MAX_ORDER {
-            ratings[part] = self.rows[part].rating_in_force();
-        }
-        ratings
     }
 }
