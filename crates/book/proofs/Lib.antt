@@ -1,0 +1,4 @@
+pub mod Sheets
+pub mod FailedParts
+pub mod Ratings
+pub mod Trials

@@ -1,0 +1,7 @@
+// A station's ratings, prices and withdrawals, and the figures that follow from them.
+pub mod refusal;
+pub mod row;
+pub mod sheet;
+#[cfg(test)]
+mod tests;
+pub mod trial;
