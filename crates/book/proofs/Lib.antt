@@ -1,2 +1,6 @@
 pub mod Weighing
+pub mod Deciding
 pub mod Values
+pub mod Sums
+pub mod Exactness
+pub mod Closeness
