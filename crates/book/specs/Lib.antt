@@ -1,3 +1,4 @@
 pub mod Refusals
 pub mod Figure
 pub mod Reliability
+pub mod Places
