@@ -6,3 +6,4 @@ pub mod Places
 pub mod Sums
 pub mod Exactness
 pub mod Closeness
+pub mod Histories
