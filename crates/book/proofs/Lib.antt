@@ -7,3 +7,5 @@ pub mod Sums
 pub mod Exactness
 pub mod Closeness
 pub mod Histories
+pub mod Acceptance
+pub mod Standings

@@ -2,7 +2,7 @@
 use mathlib.Core.Bool.{Bool, true, false, cond}
 use mathlib.Core.List.{List, [], _∷_}
 use Prim.Native.Nat.{ℕ}
-use lib.Dec.{leb, ltb, eqb}
+use lib.Dec.{ltb, eqb}
 use Rattle.std.specs.declared.option.Option.{Option}
 use Rattle.std.specs.declared.option.Option.the-variants.{Some, None}
 use Rattle.book.specs.declared.refusal.Refusal.{Refusal}
@@ -56,8 +56,9 @@ held (AskFigure ∷ past) = true
 
 -- ---- which calls are accepted, of a station of n parts
 
+-- no such part, or what else refuses the call
 abbrev pub onPart : ℕ → ℕ → Option Refusal → Option Refusal
-onPart n part why = cond (leb n part) (Some Part) why
+onPart n part why = cond (ltb part n) why (Some Part)
 
 -- why a call is refused, first fit first
 abbrev pub verdict : ℕ → List Deed → Deed → Option Refusal
