@@ -100,8 +100,11 @@ held-since (deed ∷ since) before none = held-still deed (since ++ (AskFigure �
 
 pub told : (past : List Deed) → Told past
 told past = record {
-  marked = λ part. (withdrawn-latest part past, latest-says (moves part) (λ ds. withdrawn ds part) (withdrawn-skips part) past (Withdraw part) true
-      (λ before. cond-true (eqb part part) true (withdrawn before part) (itself part)));
+  marked = λ part. (
+    withdrawn-latest part past,
+    latest-says (moves part) (λ ds. withdrawn ds part) (withdrawn-skips part) past (Withdraw part) true
+        (λ before. cond-true (eqb part part) true (withdrawn before part) (itself part)),
+  );
   rated = λ part new. latest-says (rates part) (λ ds. rating ds part) (rating-skips part) past (Rate part new) new
       (λ before. cond-true (eqb part part) new (rating before part) (itself part));
   unrated = λ part. never-says (rates part) (λ ds. rating ds part) (rating-skips part) past;

@@ -9,3 +9,4 @@ pub mod Closeness
 pub mod Histories
 pub mod Acceptance
 pub mod Standings
+pub mod Agreement

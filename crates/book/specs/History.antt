@@ -60,13 +60,16 @@ held (AskFigure ∷ past) = true
 abbrev pub onPart : ℕ → ℕ → Option Refusal → Option Refusal
 onPart n part why = cond (ltb part n) why (Some Part)
 
--- why a call is refused, first fit first
+-- why a call is refused where the marked parts are withdrawn, first fit first
+abbrev pub refused : ℕ → (ℕ → Bool) → Deed → Option Refusal
+refused n marked (Rate part new) = onPart n part (cond (ltb 65536 new) (Some Rating) (cond (marked part) (Some RatedWithdrawn) None))
+refused n marked (SetPrice part new) = onPart n part (cond (ltb 65535 new) (Some Price) None)
+refused n marked (Withdraw part) = onPart n part (cond (marked part) (Some Withdrawn) None)
+refused n marked (PutBack part) = onPart n part (cond (marked part) None (Some InService))
+refused n marked AskFigure = None
+
 abbrev pub verdict : ℕ → List Deed → Deed → Option Refusal
-verdict n past (Rate part new) = onPart n part (cond (ltb 65536 new) (Some Rating) (cond (withdrawn past part) (Some RatedWithdrawn) None))
-verdict n past (SetPrice part new) = onPart n part (cond (ltb 65535 new) (Some Price) None)
-verdict n past (Withdraw part) = onPart n part (cond (withdrawn past part) (Some Withdrawn) None)
-verdict n past (PutBack part) = onPart n part (cond (withdrawn past part) None (Some InService))
-verdict n past AskFigure = None
+verdict n past deed = refused n (withdrawn past) deed
 
 -- a refused call leaves no trace
 abbrev pub noted : Option Refusal → Deed → List Deed → List Deed
