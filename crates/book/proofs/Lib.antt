@@ -14,3 +14,4 @@ pub mod Histories
 pub mod Acceptance
 pub mod Standings
 pub mod Agreement
+pub mod SheetFigures

@@ -8,3 +8,4 @@ pub mod Places
 pub mod History
 pub mod Told
 pub mod Standing
+pub mod SheetFigure

@@ -5,4 +5,5 @@ pub mod row;
 pub mod sheet;
 #[cfg(test)]
 mod tests;
+pub mod sheet_figure;
 pub mod trial;
