@@ -1,5 +1,5 @@
 -- What every accepted call keeps to. Assumes nothing.
-use mathlib.Core.Path.{_≡_, refl, sym, _∙_}
+use mathlib.Core.Path.{_≡_, refl, sym, ap, _∙_}
 use mathlib.Core.Bool.{Bool, true, false, cond}
 use mathlib.Core.List.{List, [], _∷_}
 use mathlib.Core.Logic.{⊎-elim}
@@ -11,9 +11,8 @@ use Rattle.std.specs.declared.option.Option.the-variants.{Some, None}
 use Rattle.std.specs.Options.{isSome}
 use Rattle.std.proofs.shelf.Tests.{cases-bool, both-ways, cond-true, cond-false, cond-both, eqb-true, ltb-true, ltb-false}
 use Rattle.book.specs.declared.refusal.Refusal.{Refusal}
-use Rattle.book.specs.declared.refusal.Refusal.the-variants.{Part, Rating, RatedWithdrawn}
-use Rattle.book.specs.History.{Deed, Rate, SetPrice, Withdraw, PutBack, AskFigure, withdrawn, rating, verdict, onPart, next, noted, accepted}
-use mathlib.Core.Path.{ap}
+use Rattle.book.specs.declared.refusal.Refusal.the-variants.{Part, Rating}
+use Rattle.book.specs.History.{Deed, Rate, SetPrice, Withdraw, PutBack, AskFigure, withdrawn, rating, verdict, next, noted, accepted}
 
 -- each call of the past was accepted when it was made
 abbrev pub Sound : ℕ → List Deed → Type 0

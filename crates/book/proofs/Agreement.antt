@@ -1,15 +1,14 @@
 -- Marks, ratings and prices that agree with a history, and how they go on to after each accepted call. Assumes nothing.
-use mathlib.Core.Path.{_≡_, refl, sym, ap, ap₂, _∙_}
+use mathlib.Core.Path.{_≡_, refl, sym, ap, _∙_}
 use mathlib.Core.Bool.{Bool, true, false, cond}
 use mathlib.Core.List.{List, [], _∷_}
 use mathlib.Core.Logic.{⊎-elim}
 use Prim.Native.Nat.{ℕ, _<_}
-use native.Mathlib.Omega.{arith}
 use lib.Dec.{eqb, ltb}
 use lib.ListN.{length, getD, set}
 use Rattle.std.specs.declared.option.Option.{Option}
 use Rattle.std.proofs.shelf.Lists.{getD-set-same, getD-set-other}
-use Rattle.std.proofs.shelf.Tests.{cases-bool, cond-true, cond-false, cond-both, eqb-true, eqb-false, ltb-true}
+use Rattle.std.proofs.shelf.Tests.{cases-bool, cond-false, cond-both, eqb-true, eqb-false, ltb-true}
 use Rattle.book.specs.declared.refusal.Refusal.{Refusal}
 use Rattle.book.specs.declared.refusal.Refusal.the-variants.{Part, Rating, RatedWithdrawn, Withdrawn, InService}
 use Rattle.std.specs.declared.option.Option.the-variants.{Some, None}

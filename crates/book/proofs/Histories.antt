@@ -1,13 +1,11 @@
--- That a history says what its latest deeds say, and what every accepted call keeps to. Assumes nothing.
+-- That a history says what its latest deeds say. Assumes nothing.
 use mathlib.Core.Path.{_≡_, refl, sym, ap, subst, _∙_}
-use mathlib.Core.Bool.{Bool, true, false, cond}
+use mathlib.Core.Bool.{Bool, true, false}
 use mathlib.Core.List.{List, [], _∷_, _++_}
 use mathlib.Core.Logic.{⊎-elim}
-use Prim.Native.Nat.{ℕ, _≤_, _<_}
-use native.Mathlib.Omega.{arith}
-use lib.Dec.{eqb, leb, ltb}
+use Prim.Native.Nat.{ℕ}
+use lib.Dec.{eqb}
 use Rattle.std.proofs.shelf.Tests.{cases-bool, both-ways, cond-true, cond-false, eqb-true, eq-eqb}
-use Rattle.analysis.specs.Counts.{Each}
 use Rattle.book.specs.History.{Deed, Rate, SetPrice, Withdraw, PutBack, AskFigure, withdrawn, rating, price, held}
 use Rattle.book.specs.Told.{Latest, Never, moves, rates, prices, changes, Told}
 

@@ -1,13 +1,12 @@
 -- The station as it stands after a history: its marks, its ratings and its figure. Assumes nothing.
 use mathlib.Core.Path.{_≡_, refl, sym, ap, ap₂, _∙_}
 use mathlib.Core.Bool.{Bool, true, false, cond}
-use mathlib.Core.List.{List, [], _∷_, map}
+use mathlib.Core.List.{List, _∷_}
 use mathlib.Core.Logic.{⊎-elim}
 use Prim.Native.Nat.{ℕ, zero, suc, _+_, _^_, _≤_, _<_}
-use native.Mathlib.Nat.{pow-suc, zero-add, suc-add, add-suc}
+use native.Mathlib.Nat.{pow-suc, zero-add}
 use native.Mathlib.Omega.{arith}
 use lib.ListN.{length, getD, take}
-use lib.Pow.{pow-pos}
 use Rattle.std.proofs.shelf.Lists.{length-map, getD-map, getD-past, getD-take, length-take-le, same-lists, getD-default}
 use Rattle.std.proofs.shelf.Tests.{cases-lt, both-ways}
 use Rattle.structure.specs.Layers.{hold}
@@ -15,7 +14,7 @@ use Rattle.structure.specs.Meanings.{Meaning, Sized, Monotone}
 use Rattle.structure.proofs.Layers.{hold-monotone}
 use Rattle.analysis.specs.Minimal.{rising}
 use Rattle.analysis.proofs.Rising.{length-rising}
-use Rattle.book.specs.Figure.{figureOf, floor, Rated, Rises, WorksWherever, NotLower}
+use Rattle.book.specs.Figure.{figureOf, floor, Rated, Rises, WorksWherever}
 use Rattle.book.specs.History.{Deed, Rate, SetPrice, Withdraw, PutBack, AskFigure, withdrawn, rating}
 use Rattle.book.specs.Reliability.{Close}
 use Rattle.book.specs.Standing.{setOf, standing, ratings, figureAfter}
