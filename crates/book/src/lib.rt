@@ -3,7 +3,7 @@ mod figure;
 pub mod refusal;
 pub mod row;
 pub mod sheet;
+pub mod sheet_figure;
 #[cfg(test)]
 mod tests;
-pub mod sheet_figure;
 pub mod trial;
