@@ -4,17 +4,15 @@ use mathlib.Core.Bool.{Bool, true, false, cond}
 use Prim.Native.Nat.{ℕ, _<_, _≤_}
 use native.Mathlib.Omega.{arith}
 use lib.Dec.{ltb}
-use lib.ListN.{length, getD, set}
+use lib.ListN.{length}
 use lib.Seq.{getD-set-same, set-set}
 use Rattle.std.specs.Results.{isOk}
 use Rattle.std.specs.declared.option.Option.{Option}
 use Rattle.std.specs.declared.option.Option.the-variants.{Some, None}
-use Rattle.std.specs.declared.result.Result.{Result}
-use Rattle.std.specs.declared.result.Result.the-variants.{Ok, Err}
 use Rattle.std.proofs.shelf.Tests.{lt-ltb, ltb-true}
 use Rattle.book.specs.declared.refusal.Refusal.{Refusal}
 use Rattle.book.specs.declared.refusal.Refusal.the-variants.{Part, Withdrawn}
-use Rattle.book.specs.Rows.{blankRow, unless, withMark, rowWithdrawRefused}
+use Rattle.book.specs.Rows.{blankRow, unless, withMark}
 use Rattle.book.specs.Sheets.{Page, rowOf, changed, withdrawRefused, takenOut, putBack}
 use Rattle.book.specs.Trials.{onTrial, trialOver}
 use Rattle.book.proofs.Sheets.{placed, placed-same}

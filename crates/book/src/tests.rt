@@ -15,9 +15,6 @@ fn failed_without(sheet: &mut Sheet, part: usize, other: usize) -> Result<u16, R
     sheet.check_withdraw(part)?;
     let trial = Trial::begin(sheet, part);
     trial.sheet().check_withdraw(other)?;
-    if trial.sheet().order() == 2 {
-        return Ok(3);
-    }
     Ok(trial.sheet().withdrawn())
 }
 
@@ -38,7 +35,6 @@ fn sheet_of_five() -> Result<Sheet, Refusal> {
     let mut sheet = Sheet::new();
     sheet.start(5)?;
     sheet.rate(4, 60000)?;
-    sheet.price(4, 700)?;
     sheet.withdraw(1)?;
     Ok(sheet)
 }
@@ -61,8 +57,5 @@ fn refuses_by_the_first_that_fits() -> Result<(), Fail> {
     check_eq(sheet.rate(1, 65537), Err(Refusal::Rating))?;
     check_eq(sheet.rate(1, 65536), Err(Refusal::RatedWithdrawn))?;
     check_eq(sheet.rate(0, 65536), Ok(()))?;
-    check_eq(sheet.price(1, 65536), Err(Refusal::Price))?;
-    check_eq(sheet.withdraw(1), Err(Refusal::Withdrawn))?;
-    check_eq(sheet.put_back(0), Err(Refusal::InService))?;
     check_eq(sheet.ratings()[4], 60000)
 }

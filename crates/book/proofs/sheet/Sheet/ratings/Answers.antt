@@ -2,7 +2,7 @@ use mathlib.Core.Path.{_≡_, sym, ap, subst, _∙_}
 use mathlib.Core.List.{List, map}
 use Prim.Native.Nat.{ℕ, _≤_}
 use native.Mathlib.Omega.{arith}
-use lib.ListN.{getD, take, length-set}
+use lib.ListN.{getD, length-set}
 use Rattle.std.proofs.shelf.Lists.{take-all}
 use Rattle.book.specs.Rows.{ratingInForce}
 use Rattle.book.proofs.Ratings.{ratings-more, ratings-bounded}
