@@ -5,6 +5,10 @@ use analysis::refusal::Refusal;
 use analysis::refusal::RefusalDebug;
 use analysis::refusal::RefusalPartialEq;
 use analysis::role::Role;
+use analysis::swing::swing;
+use analysis::tally::tally;
+use analysis::verdict::verdict;
+use analysis::weighed_tally::weighed_tally;
 use std::test::*;
 use structure::cut_list::CutListStructure;
 use structure::dual::Dual;
@@ -56,4 +60,20 @@ fn cuts_of_two_of_three() -> Result<(), Fail> {
     let redrawn = redraw_cuts(&station)?;
     check(redrawn.works(0b110))?;
     check(!redrawn.works(0b010))
+}
+
+#[test]
+fn what_two_of_three_weighs() -> Result<(), Fail> {
+    let station = KOutOfN::new(3, 2)?;
+    let mut counts = [7; 5];
+    check_eq(tally(&station, &mut counts), Ok(4))?;
+    check_eq(counts, [0, 0, 3, 1, 7])?;
+    let weighed = weighed_tally(&station);
+    check_eq(weighed[2], 3)?;
+    check_eq(weighed[3], 1)?;
+    check_eq(swing(&station, 1), Ok(2))?;
+    check_eq(swing(&station, 3), Err(Refusal::Part))?;
+    let verdict = verdict(&station);
+    check(verdict.coherent)?;
+    check_eq(verdict.relevant, 0b111)
 }
