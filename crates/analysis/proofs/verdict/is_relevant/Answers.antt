@@ -1,6 +1,4 @@
-use mathlib.Core.Path.{_≡_, sym, ap, _∙_}
-use lib.Dec.{ltb}
-use Rattle.std.specs.declared.result.Result.the-variants.{Ok}
+use mathlib.Core.Path.{_≡_, sym, _∙_}
 use Rattle.analysis.specs.Swings.{swingOf}
 use Rattle.analysis.proofs.Swings.{swing-told}
 use Rattle.analysis.proofs.Verdicts.{matters-swing}
@@ -11,4 +9,5 @@ returns-in-Ok g c =
     let m = g .S·Structure .meaning (c .args .structure .now) in
     let told = c .in-Ok .ensures tt ∙ sym (swing-told m (c .args .part) (c .pre)) in
     let states : c .in-Ok .states ≡ swingOf m (c .args .part) = cc in
-    ap (ltb 0) states ∙ matters-swing m (c .args .part)
+    let relevant = matters-swing m (c .args .part) in
+    cc
