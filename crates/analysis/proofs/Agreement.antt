@@ -1,5 +1,5 @@
 -- Structures that work in the same states have the same minimal sets. Assumes nothing.
-use Rattle.std.proofs.Common.{◌≡◌, ℕ, zero, suc, ◌+◌, ◌-◌, ◌^◌, ◌<◌, ◌≤◌, Bool, true, false, cond, not, ◌&&◌, ◌||◌, eqb, List, [], ◌∷◌, sym, refl, ap, ◌∙◌, ap₂, arith}
+use Rattle.std.proofs.Common.{◌≡◌, ℕ, zero, suc, ◌+◌, ◌-◌, ◌^◌, ◌<◌, ◌≤◌, Bool, cond, not, ◌&&◌, ◌||◌, eqb, List, [], ◌∷◌, refl, ap, ◌∙◌, ap₂, arith}
 use Rattle.structure.specs.Kinds.{any}
 use Rattle.structure.specs.Meanings.{Meaning, Same}
 use Rattle.structure.specs.States.{digit, reversed}

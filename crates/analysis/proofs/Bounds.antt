@@ -1,5 +1,5 @@
 -- How many minimal sets there can be. Assumes nothing.
-use Rattle.std.proofs.Common.{ℕ, ◌^◌, ◌≤◌, length, arith}
+use Rattle.std.proofs.Common.{◌^◌, ◌≤◌, length, arith}
 use Rattle.structure.specs.Meanings.{Meaning}
 use Rattle.structure.specs.Digits.{states_fit}
 use Rattle.analysis.specs.declared.role.Role.{Role}

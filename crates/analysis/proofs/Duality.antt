@@ -1,13 +1,12 @@
 -- Path lists and cut lists of minimal sets work as the structure that they were made from. Assumes nothing.
-use Rattle.std.proofs.Common.{◌≡◌, ℕ, zero, suc, ◌+◌, ◌-◌, ◌^◌, ◌<◌, ◌≤◌, min, Bool, true, false, cond, not, ◌&&◌, ◌||◌, eqb, List, [], ◌∷◌, sym, refl, ap, ◌∙◌, subst, ap₂, ⊎_elim, arith}
+use Rattle.std.proofs.Common.{◌≡◌, ℕ, zero, suc, ◌+◌, ◌^◌, ◌<◌, ◌≤◌, Bool, true, false, cond, not, ◌&&◌, ◌||◌, ◌∷◌, sym, refl, ap, ◌∙◌, ap₂, ⊎_elim, arith}
 use lib.Bits.{bit_and}
-use Rattle.std.proofs.lemmas.Bool.{cases_lt, cases_eq, eqb-true, eq-eqb, ne_eqb}
+use Rattle.std.proofs.lemmas.Bool.{cases_lt, cases_eq, eq-eqb, ne_eqb}
 use Rattle.structure.specs.Kinds.{any, all, covers, meets, path_list, cut_list}
 use Rattle.structure.specs.Meanings.{Meaning, Monotone, Same}
 use Rattle.structure.specs.States.{Within, digit, reversed}
 use Rattle.structure.specs.Digits.{within_and, and_within, digit_and, digit_none, digit_bit, digit_above, digit_reversed, same_digits, reversed_below, reversed_twice}
 use Rattle.structure.specs.LayersLemmas.{dual_monotone}
-use Rattle.analysis.specs.declared.role.Role.{Role}
 use Rattle.analysis.specs.declared.role.Role.TheVariants.{Path, Cut}
 use Rattle.analysis.specs.Minimal.{does, minimal, minimal_sets, rising, keep}
 use Rattle.analysis.proofs.Least.{told_by_least}

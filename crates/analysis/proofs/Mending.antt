@@ -1,9 +1,9 @@
 -- A failed part mended: the state it makes, how many parts then work, and that what worked still works. Assumes nothing.
-use Rattle.std.proofs.Common.{◌≡◌, ℕ, zero, suc, ◌+◌, ◌-◌, ◌/◌, ◌%◌, ◌^◌, ◌<◌, ◌≤◌, true, ◌≢◌, sym, refl, ap, ◌∙◌, subst, ⊎_elim, add-sub_cancel, arith, pow_pos}
+use Rattle.std.proofs.Common.{◌≡◌, ℕ, zero, suc, ◌+◌, ◌-◌, ◌^◌, ◌<◌, ◌≤◌, true, ◌≢◌, sym, refl, ap, ◌∙◌, subst, ⊎_elim, add-sub_cancel, arith, pow_pos}
 use native.Mathlib.Nat.{add-div_right}
 use Rattle.std.proofs.lemmas.Bool.{cases_eq}
 use Rattle.structure.specs.Meanings.{Meaning, Monotone}
-use Rattle.structure.specs.States.{digit, cleared, size, Within}
+use Rattle.structure.specs.States.{digit, size, Within}
 use Rattle.structure.specs.Digits.{digit_above, digit_cleared, digit_part_same, digit_part_other, below_from_digits}
 use Rattle.analysis.proofs.Sets.{less_cleared, less_within}
 

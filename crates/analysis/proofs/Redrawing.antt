@@ -1,7 +1,7 @@
 -- Sets added one after another to a drawing. Assumes nothing.
-use Rattle.std.proofs.Common.{◌≡◌, ℕ, ◌<◌, List, [], ◌∷◌, ◌++◌, length, Some, None, Ok, Err, Option, Result, sym, refl, ap, ◌∙◌, subst, ap₂, append_assoc, append-nil, arith}
+use Rattle.std.proofs.Common.{◌≡◌, ℕ, ◌<◌, List, [], ◌∷◌, ◌++◌, length, Some, None, Ok, Err, Option, Result, sym, refl, ap, ◌∙◌, append_assoc, arith}
 use Rattle.structure.specs.declared.refusal.Refusal.{Refusal}
-use Rattle.structure.specs.Drawings.{Drawing, set_refused, order_refused, added, started, unless}
+use Rattle.structure.specs.Drawings.{Drawing, set_refused, added, unless}
 use Rattle.analysis.specs.Listing.{first, others}
 use Rattle.analysis.specs.Redrawing.{first_refused}
 use Rattle.analysis.proofs.Places.{none_some, same_some}

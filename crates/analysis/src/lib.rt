@@ -1,4 +1,6 @@
 // What is asked of any structure: minimal paths and cuts, drawings made from them, counts, and sums in any weights.
+#![tactic(auto)]
+
 pub mod coherence;
 pub mod listing;
 pub mod minimal;

@@ -1,11 +1,11 @@
 -- Marks that agree with a history refuse what it refuses. Assumes nothing.
-use Rattle.std.proofs.Common.{◌≡◌, ℕ, ◌<◌, Bool, true, false, cond, eqb, ltb, List, [], ◌∷◌, length, get_or, set, Some, None, Option, sym, refl, ap, ◌∙◌, ⊎_elim}
+use Rattle.std.proofs.Common.{◌≡◌, ℕ, ◌<◌, Bool, true, false, cond, eqb, ltb, List, [], length, get_or, set, Some, None, Option, sym, refl, ap, ◌∙◌, ⊎_elim}
 use Rattle.std.proofs.lemmas.List.{get_or-set_same, get_or-set_other}
 use Rattle.std.proofs.lemmas.Bool.{cases_Bool, cond-false, cond_both, eqb-true, eqb-false, ltb-true}
 use Rattle.sheet.specs.declared.refusal.Refusal.{Refusal}
 use Rattle.sheet.specs.declared.refusal.Refusal.TheVariants.{Part, Rating, RatedWithdrawn, Withdrawn, InService}
 use Rattle.book.specs.Agreement.{Agrees}
-use Rattle.book.specs.History.{Deed, Rate, SetPrice, Withdraw, PutBack, AskFigure, withdrawn, rating, price, on_part, refused, verdict}
+use Rattle.book.specs.History.{Deed, Rate, SetPrice, Withdraw, PutBack, AskFigure, withdrawn, on_part, refused, verdict}
 
 pub agrees_start : (n : ℕ) → Agrees n [] (λ _. false) (λ _. 0) (λ _. 0)
 agrees_start n = record { marked = λ _ _. refl; rated = λ _ _. refl; priced = λ _ _. refl }

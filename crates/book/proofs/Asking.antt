@@ -1,7 +1,7 @@
 -- Clearing parts and leaving out digits that no part has, in either order. Assumes nothing.
-use Rattle.std.proofs.Common.{◌≡◌, ℕ, ◌%◌, ◌^◌, ◌<◌, ◌≤◌, sym, ◌∙◌, ⊎_elim, mod-lt, arith, pow_pos}
+use Rattle.std.proofs.Common.{◌≡◌, ℕ, ◌%◌, ◌^◌, ◌<◌, ◌≤◌, ⊎_elim, mod-lt, arith, pow_pos}
 use Rattle.std.proofs.lemmas.Bool.{cases_lt}
-use Rattle.structure.specs.States.{digit, cleared}
+use Rattle.structure.specs.States.{cleared}
 use Rattle.structure.specs.Digits.{same_digits, digit_mod, digit_above, digit_cleared}
 
 pub cleared_mod : (n set s : ℕ) → cleared set s % 2 ^ n ≡ cleared set (s % 2 ^ n)

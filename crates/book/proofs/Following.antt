@@ -1,5 +1,5 @@
 -- A book goes on to agree with its history, whatever is called. Assumes nothing.
-use Rattle.std.proofs.Common.{◌≡◌, ℕ, ◌<◌, ◌≤◌, Bool, true, false, cond, eqb, ltb, List, [], ◌∷◌, map, length, get_or, set, is_some, Some, None, Option, Result, sym, refl, ap, ◌∙◌, subst, ap₂, arith}
+use Rattle.std.proofs.Common.{◌≡◌, ℕ, ◌<◌, ◌≤◌, Bool, true, false, cond, eqb, ltb, List, ◌∷◌, map, length, get_or, set, is_some, Some, None, Option, Result, sym, refl, ap, ◌∙◌, subst, ap₂, arith}
 use Rattle.std.proofs.lemmas.List.{length-map, get_or-map}
 use Rattle.std.proofs.lemmas.Bool.{ltb-true, both_ways}
 use Rattle.structure.specs.Meanings.{Meaning, Same}
@@ -16,15 +16,15 @@ use Rattle.sheet.proofs.FailedParts.{failed_set}
 use Rattle.book.specs.declared.answer.Answer.{Answer}
 use Rattle.book.specs.Answers.{ruled}
 use Rattle.book.specs.Following.{done_or}
-use Rattle.book.specs.Agreement.{Agrees, PageAgrees, Agreed, held_after}
-use Rattle.book.specs.Entries.{Written, altered, repriced, blank}
+use Rattle.book.specs.Agreement.{PageAgrees, Agreed}
+use Rattle.book.specs.Entries.{Written, altered, repriced}
 use Rattle.book.specs.History.{Deed, Rate, SetPrice, Withdraw, PutBack, AskFigure, withdrawn, rating, price, held, on_part, refused, verdict, noted, next}
 use Rattle.book.specs.Standing.{standing, ratings, figure_after, importance_after}
 use Rattle.book.specs.Told.{changes}
 use Rattle.book.proofs.Acceptance.{passes}
 use Rattle.book.proofs.Agreement.{refused_same, read_written}
 use Rattle.book.proofs.Keeping.{unread}
-use Rattle.book.proofs.Standings.{figure_kept, set_of_same, ratings_taken, ratings_long}
+use Rattle.book.proofs.Standings.{set_of_same, ratings_taken, ratings_long}
 use Rattle.book.proofs.Sameness.{hold_same, figure_same, importance_same}
 
 -- ---- one row changed on a page that agrees

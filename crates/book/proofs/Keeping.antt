@@ -1,6 +1,6 @@
 -- What a book keeps to through every call: its marks, and a held figure that is the figure of what stands. Assumes nothing.
-use Rattle.std.proofs.Common.{◌≡◌, ℕ, zero, suc, ◌+◌, ◌<◌, ◌≤◌, true, false, List, map, length, get_or, take, set, replicate, is_some, Some, None, Ok, Err, Option, Result, sym, refl, ap, ◌∙◌, subst, ap₂, ⊎_elim, arith}
-use Rattle.std.proofs.lemmas.List.{get_or-set_same, get_or-set_other, map-set, set-get_or, get_or-map, set_past}
+use Rattle.std.proofs.Common.{◌≡◌, ℕ, zero, suc, ◌+◌, ◌<◌, ◌≤◌, true, false, List, map, length, get_or, take, set, replicate, is_some, Some, None, Option, sym, refl, ap, ◌∙◌, ap₂, ⊎_elim}
+use Rattle.std.proofs.lemmas.List.{get_or-set_same, get_or-set_other, map-set, set-get_or, set_past}
 use Rattle.std.proofs.lemmas.Bool.{both_ways, cases_eq, cases_lt}
 use Rattle.structure.specs.Meanings.{Meaning}
 use Rattle.sheet.specs.declared.refusal.Refusal.{Refusal}
@@ -15,9 +15,11 @@ use Rattle.book.specs.Entries.{Written, altered, repriced}
 use Rattle.book.proofs.Standings.{set_of_same}
 
 abbrev pub Kept : Meaning → Written → Type 0
-Kept m w =
-    (m.order ≡ w.page.order)
-    × ((w.failed ≡ failed_parts w.page) × (((units : ℕ) → w.held ≡ Some units → units ≡ figure_at m w.page) × Unit {0}))
+Kept m w = record {
+  fits : m.order ≡ w.page.order;
+  standing : w.failed ≡ failed_parts w.page;
+  figure : (units : ℕ) → w.held ≡ Some units → units ≡ figure_at m w.page;
+}
 
 pub none_held : {A : Type 0} (units : ℕ) → ◌≡◌ {A = Option ℕ} None (Some units) → A
 none_held units e = absurd (both_ways true (sym (ap is_some e)) refl)
@@ -29,12 +31,12 @@ unless_order None new old e = e
 unless_order (Some why) new old e = refl
 
 pub altered_kept : (m : Meaning) (why : Option Refusal) (new : Page) (before : Written) → new.order ≡ before.page.order → Kept m before → Kept m (altered (unless why new before.page) before).1
-altered_kept m None new before same kept = (kept.0 ∙ sym same, (refl, ((λ units e. none_held units e), tt)))
+altered_kept m None new before same kept = record { fits = kept.fits ∙ sym same; standing = refl; figure = λ units e. none_held units e }
 altered_kept m (Some why) new before same kept = kept
 
 pub repriced_kept : (m : Meaning) (why : Option Refusal) (new : Page) (before : Written) → new.order ≡ before.page.order → failed_parts new ≡ failed_parts before.page → figure_at m new ≡ figure_at m before.page → Kept m before → Kept m (repriced (unless why new before.page) before).1
 repriced_kept m None new before same marks figure kept =
-    (kept.0 ∙ sym same, (kept.1.0 ∙ sym marks, (λ units e. kept.1.1.0 units e ∙ sym figure, tt)))
+    record { fits = kept.fits ∙ sym same; standing = kept.standing ∙ sym marks; figure = λ units e. kept.figure units e ∙ sym figure }
 repriced_kept m (Some why) new before same marks figure kept = kept
 
 -- ---- a change of one row that leaves what is read of it

@@ -1,5 +1,5 @@
 -- The calls of a list answered one after another. Assumes nothing.
-use Rattle.std.proofs.Common.{◌≡◌, ℕ, ◌+◌, ◌<◌, ◌≤◌, List, [], ◌∷◌, ◌++◌, length, get_or, take, drop, set, sym, refl, ap, ◌∙◌, subst, ⊎_elim, arith}
+use Rattle.std.proofs.Common.{◌≡◌, ℕ, ◌+◌, ◌<◌, List, [], ◌∷◌, ◌++◌, length, get_or, take, drop, set, sym, refl, ap, ◌∙◌, subst, ⊎_elim, arith}
 use Rattle.std.proofs.lemmas.List.{get_or-set_same, get_or-set_other, take_more}
 use Rattle.std.proofs.lemmas.Bool.{cases_eq}
 use Rattle.structure.specs.Meanings.{Meaning}
@@ -10,7 +10,7 @@ use Rattle.book.specs.declared.book.Book.{Book}
 use Rattle.book.specs.declared.call.Call.{Call}
 use Rattle.book.specs.declared.call.Call.TheVariants.{Figure}
 use Rattle.book.specs.Answers.{past_after, past_at, onward, deed_of, answer_to}
-use Rattle.book.specs.Following.{Saw, Followed, Follows, Played, Spared}
+use Rattle.book.specs.Following.{Saw, Follows, Played, Spared}
 use Rattle.book.specs.Books.{opened}
 use Rattle.book.specs.History.{Deed}
 

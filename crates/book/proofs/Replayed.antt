@@ -1,7 +1,6 @@
 -- What is true after any list of calls on a new book. Assumes nothing.
-use Rattle.std.proofs.Common.{◌≡◌, ℕ, zero, suc, ◌<◌, ◌≤◌, Bool, true, false, leb, List, [], ◌∷◌, length, get_or, take, drop, replicate, is_some, is_ok, Some, None, Ok, Err, Option, Result, sym, refl, ap, ◌∙◌, subst, arith}
+use Rattle.std.proofs.Common.{◌≡◌, ℕ, zero, suc, ◌≤◌, true, leb, List, [], ◌∷◌, length, get_or, take, replicate, is_ok, Some, None, Ok, Err, Option, Result, sym, refl, ap, ◌∙◌, subst}
 use Rattle.std.proofs.lemmas.Bool.{both_ways, leb-true}
-use Rattle.std.proofs.lemmas.List.{take_all}
 use Rattle.structure.specs.Meanings.{Meaning, Same, Sized}
 use Rattle.weight.specs.declared.Weight.{Ghosts}
 use Rattle.analysis.specs.declared.refusal.Refusal.TheVariants.{TooFewPlaces, TooFewSlots}
@@ -16,7 +15,7 @@ use Rattle.book.specs.declared.book.Book.{Book}
 use Rattle.book.specs.declared.call.Call.{Call}
 use Rattle.book.specs.declared.figure.Figure.{Figure}
 use Rattle.book.specs.Agreement.{Agreed, PageAgrees}
-use Rattle.book.specs.Answers.{deed_of, onward, past_after, past_at, figure_then}
+use Rattle.book.specs.Answers.{deed_of, onward, past_after, past_at}
 use Rattle.book.specs.Books.{opened, entered, book_figure}
 use Rattle.book.specs.Entries.{blank}
 use Rattle.book.specs.Following.{Saw, Played}

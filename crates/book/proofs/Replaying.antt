@@ -1,7 +1,7 @@
 -- A book that has seen a history follows each call of a list. Assumes nothing.
-use Rattle.std.proofs.Common.{◌≡◌, ℕ, ◌<◌, ◌≤◌, Bool, true, false, cond, ltb, List, ◌∷◌, length, Ok, Err, Result, sym, refl, ap, ◌∙◌, subst, ap₂, ⊎_elim, arith}
-use Rattle.std.proofs.lemmas.Bool.{cases_Bool, ltb-true, ltb-false, cond-true, cond-false}
-use Rattle.structure.specs.Meanings.{Meaning, Same}
+use Rattle.std.proofs.Common.{◌≡◌, ℕ, ◌≤◌, Bool, true, false, cond, ltb, List, ◌∷◌, Ok, Err, Result, sym, refl, ap, ◌∙◌, subst, ap₂, arith}
+use Rattle.std.proofs.lemmas.Bool.{ltb-true}
+use Rattle.structure.specs.Meanings.{Meaning}
 use Rattle.weight.specs.declared.Weight.{Ghosts}
 use Rattle.analysis.specs.Weighed.{weighed}
 use Rattle.sheet.specs.declared.refusal.Refusal.{Refusal}
@@ -10,7 +10,7 @@ use Rattle.sheet.specs.Figure.{floor}
 use Rattle.sheet.specs.Importance.{importance_at}
 use Rattle.sheet.specs.Sheets.{rated, priced, taken_out, put_back}
 use Rattle.book.specs.declared.answer.Answer.{Answer}
-use Rattle.book.specs.declared.answer.Answer.TheVariants.{Refused, Figure as figure-is, Importance as importance-is}
+use Rattle.book.specs.declared.answer.Answer.TheVariants.{Refused, Importance as importance-is}
 use Rattle.book.specs.declared.book.Book.{Book}
 use Rattle.book.specs.declared.figure.Figure.{Figure}
 use Rattle.book.specs.Agreement.{Agreed}

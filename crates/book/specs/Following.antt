@@ -1,5 +1,5 @@
 -- A call on a book that agrees with its history. Assumes nothing.
-use Rattle.std.specs.Prelude.{◌≡◌, ℕ, ◌<◌, ◌≤◌, List, [], length, drop, Ok, Err, Result, slice_index_or}
+use Rattle.std.specs.Prelude.{◌≡◌, ℕ, ◌<◌, List, drop, Ok, Err, Result, slice_index_or}
 use Rattle.structure.specs.Meanings.{Meaning}
 use Rattle.weight.specs.declared.Weight.{Ghosts}
 use Rattle.analysis.specs.Weighed.{slots_needed}

@@ -1,4 +1,6 @@
 // A station's book: the structure it was opened on, its sheet, and a held figure that never outlives a change.
+#![tactic(auto)]
+
 pub mod answer;
 pub mod book;
 pub mod call;

@@ -1,7 +1,7 @@
 -- A run that is open, with a book that has seen its past. Assumes nothing.
-use Rattle.std.proofs.Common.{◌≡◌, ℕ, true, List, ◌∷◌, length, Some, None, Ok, Err, Option, Result, sym, refl, ap, ◌∙◌, subst, ap₂}
+use Rattle.std.proofs.Common.{◌≡◌, ℕ, true, List, length, Some, None, Ok, Err, Option, Result, sym, refl, ap, ◌∙◌, subst, ap₂}
 use Rattle.structure.specs.Drawings.{drawing}
-use Rattle.structure.specs.Meanings.{Meaning, Same}
+use Rattle.structure.specs.Meanings.{Same}
 use Rattle.structure.specs.LayersLemmas.{hold_monotone}
 use Rattle.structure.specs.Monotony.{path_list_monotone}
 use Rattle.analysis.specs.declared.role.Role.TheVariants.{Cut}
@@ -21,7 +21,7 @@ use Rattle.book.specs.Answers.{ruled as told-by}
 use Rattle.book.specs.Books.{opened, entered, stands, book_figure}
 use Rattle.book.specs.Entries.{altered, repriced}
 use Rattle.book.specs.Following.{Saw, done_or}
-use Rattle.book.specs.History.{Deed, Rate as rate, SetPrice as set-price, Withdraw as withdraw, PutBack as put_back, AskFigure as ask-figure, verdict, next}
+use Rattle.book.specs.History.{Deed, Rate as rate, SetPrice as set-price, Withdraw as withdraw, PutBack as put-back, verdict, next}
 use Rattle.book.proofs.Following.{station_same}
 use Rattle.book.proofs.Replaying.{sized, book_rated, book_priced, book_taken_out, book_put_back, book_figure_lem}
 use Rattle.book_script.specs.declared.command.Command.{Command}
@@ -104,7 +104,7 @@ module _ (run : Run) (at_open : run.stage ≡ Open) (p : Progress) (stood : Stan
         withdraw_executed part e is = noted_call (Withdraw part) e (withdraw part) (λ _. refl) refl refl (book_taken_out run.book saw after r (done_or r) same refl part is)
 
         pub put_back_executed : (part : ℕ) → command ≡ PutBack part → (r, entered after) ≡ altered (put_back part (entered run.book).page) (entered run.book) → Executed command p sets numbers then_run reply sets numbers
-        put_back_executed part e is = noted_call (PutBack part) e (put_back part) (λ _. refl) refl refl (book_put_back run.book saw after r (done_or r) same refl part is)
+        put_back_executed part e is = noted_call (PutBack part) e (put-back part) (λ _. refl) refl refl (book_put_back run.book saw after r (done_or r) same refl part is)
 
       pub figure_executed : command ≡ Figure → (f : FigureAnswer) → (f, entered after) ≡ book_figure (opened run.book) (entered run.book) → Executed command p sets numbers then_run (Ok (figure-reply f)) sets numbers
       figure_executed e f is =

@@ -23,7 +23,7 @@ pub fn interpret<O: Output>(
     numbers: &mut [u64],
     out: &mut O,
 ) -> Result<(), O::Error>
-    ensures interpreted { (p : Progress) → Stands run.old p → OnOk result (Interpreted O.Output.printed (record { sets = sets.entry.now; numbers = numbers.old }) (script_of bytes.now) p out.old run.new out.new (record { sets = sets.exit.now; numbers = numbers.new })) }
+    ensures interpreted { (p : Progress) → Stands run.old p → OnOk result (Interpreted O.Output.printed (record { sets = sets.old; numbers = numbers.old }) (script_of bytes.now) p out.old run.new out.new (record { sets = sets.new; numbers = numbers.new })) }
     ensures history { OfHistory (room_of sets.old numbers.old) (script_of bytes.now).commands }
 {
     match Reader::new(bytes) {
@@ -45,7 +45,7 @@ fn each_command<O: Output>(
     numbers: &mut [u64],
     out: &mut O,
 ) -> Result<(), O::Error>
-    ensures { (p : Progress) → Stands run.old p → OnOk result (Interpreted O.Output.printed (record { sets = sets.entry.now; numbers = numbers.old }) (read_from 0 reader.old.place (unread reader.old)) p out.old run.new out.new (record { sets = sets.exit.now; numbers = numbers.new })) }
+    ensures { (p : Progress) → Stands run.old p → OnOk result (Interpreted O.Output.printed (record { sets = sets.old; numbers = numbers.old }) (read_from 0 reader.old.place (unread reader.old)) p out.old run.new out.new (record { sets = sets.new; numbers = numbers.new })) }
 {
     loop {
         let place = reader.place();

@@ -3,7 +3,7 @@ use sheet::refusal::Refusal as SheetRefusal;
 use std::io;
 use structure::refusal::Refusal as StructureRefusal;
 
-#[derive(Drop)]
+#[derive(Debug, Drop)]
 pub enum Fault {
     Structure(StructureRefusal),
     Sheet(SheetRefusal),

@@ -1,4 +1,6 @@
 // Two plans of one station of four parts beside each other: what each call answers, and both figures at the end.
+#![tactic(auto)]
+
 mod fault;
 mod plans;
 mod possible;

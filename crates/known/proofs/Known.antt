@@ -1,5 +1,5 @@
 -- The known stations, each shown by computing its definitions. Assumes nothing.
-use Rattle.std.proofs.Common.{◌≡◌, ℕ, min, List, [], ◌∷◌, map, replicate, Some, None, Option, refl, ap, arith}
+use Rattle.std.proofs.Common.{◌≡◌, ℕ, min, List, [], ◌∷◌, map, replicate, Some, refl, ap, arith}
 use Rattle.structure.specs.States.{digit, reversed, size}
 use Rattle.analysis.specs.declared.role.Role.TheVariants.{Cut}
 use Rattle.analysis.specs.Minimal.{minimal_sets, rising}
@@ -8,9 +8,8 @@ use Rattle.analysis.specs.PathNumbers.{path_numbers}
 use Rattle.analysis.specs.Swings.{swing_of}
 use Rattle.sheet.specs.Cheapest.{cheapest_of}
 use Rattle.sheet.specs.Figure.{figure_of, floor}
-use Rattle.known.specs.Bridge.{BridgeKnown}
 use Rattle.known.specs.Known.{KnownStations}
-use Rattle.known.specs.Stations.{bridge, two_of_two, three_of_three, single, no_path, no_cut}
+use Rattle.known.specs.Stations.{bridge, two_of_two, three_of_three, no_cut}
 
 path_numbers_lem : path_numbers bridge ≡ 0 ∷ 0 ∷ 2 ∷ 8 ∷ 5 ∷ 1 ∷ []
 unfolding size digit

@@ -1,5 +1,5 @@
 -- Small stations whose figures are known. Assumes nothing.
-use Rattle.std.specs.Prelude.{List, [], ◌∷◌}
+use Rattle.std.specs.Prelude.{[], ◌∷◌}
 use Rattle.structure.specs.Drawings.{Drawing}
 use Rattle.structure.specs.Kinds.{path_list, cut_list, k_out_of_n}
 use Rattle.structure.specs.Meanings.{Meaning}

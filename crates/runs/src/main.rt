@@ -1,4 +1,6 @@
 // Runs stored scripts one after another, by the call that the program `station` makes, and prints the lines of each under its name.
+#![tactic(auto)]
+
 ghost use Rattle.std.specs.Prelude.{◌≤◌, length, IfOk};
 
 use book_script::interpreter::interpret;

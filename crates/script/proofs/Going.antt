@@ -1,5 +1,5 @@
 -- A script that is run part of the way. Assumes nothing.
-use Rattle.std.proofs.Common.{◌≡◌, ℕ, List, [], ◌∷◌, ◌++◌, sym, refl, ap, ◌∙◌, subst, append_assoc}
+use Rattle.std.proofs.Common.{◌≡◌, ℕ, List, [], ◌∷◌, ◌++◌, sym, ap, ◌∙◌, subst, append_assoc}
 use Rattle.script.specs.declared.command.Command.{Command}
 use Rattle.script.specs.Language.{Progress, Room, step}
 use Rattle.script.specs.Printing.{Prints}

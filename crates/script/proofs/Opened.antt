@@ -1,7 +1,7 @@
 -- The table of a run that is open answers as the drawing that it was filled from. Assumes nothing.
 use Rattle.std.proofs.Common.{◌≡◌, ◌^◌, ◌<◌, true, subst}
 use Rattle.structure.specs.Drawings.{drawing}
-use Rattle.structure.specs.Meanings.{Monotone, Same}
+use Rattle.structure.specs.Meanings.{Same}
 use Rattle.structure.specs.Tables.{tabled}
 use Rattle.structure.specs.Monotony.{path_list_monotone}
 use Rattle.analysis.specs.declared.role.Role.TheVariants.{Cut}

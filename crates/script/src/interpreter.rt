@@ -22,7 +22,7 @@ pub fn interpret<O: Output>(
     numbers: &mut [u64],
     out: &mut O,
 ) -> Result<(), O::Error>
-    ensures { OnOk result (Interpreted O.Output.printed (record { sets = length sets.entry.now; numbers = length numbers.old }) (script_of bytes.now) (progress run.old) out.old (progress run.new) out.new) }
+    ensures { OnOk result (Interpreted O.Output.printed (record { sets = length sets.old; numbers = length numbers.old }) (script_of bytes.now) (progress run.old) out.old (progress run.new) out.new) }
 {
     match Reader::new(bytes) {
         Ok(mut reader) => each_command(run, &mut reader, sets, numbers, out),
@@ -43,7 +43,7 @@ fn each_command<O: Output>(
     numbers: &mut [u64],
     out: &mut O,
 ) -> Result<(), O::Error>
-    ensures { OnOk result (Interpreted O.Output.printed (record { sets = length sets.entry.now; numbers = length numbers.old }) (read_from 0 reader.old.place (unread reader.old)) (progress run.old) out.old (progress run.new) out.new) }
+    ensures { OnOk result (Interpreted O.Output.printed (record { sets = length sets.old; numbers = length numbers.old }) (read_from 0 reader.old.place (unread reader.old)) (progress run.old) out.old (progress run.new) out.new) }
 {
     loop {
         let place = reader.place();
@@ -66,8 +66,8 @@ fn answer<O: Output>(
     numbers: &mut [u64],
     out: &mut O,
 ) -> Result<(), O::Error>
-    ensures now { progress run.new ≡ (step (record { sets = length sets.entry.now; numbers = length numbers.old }) command (progress run.old)).1 }
-    ensures printed { OnOk result (Prints O.Output.printed out.old (line_of place (step (record { sets = length sets.entry.now; numbers = length numbers.old }) command (progress run.old)).0) out.new) }
+    ensures now { progress run.new ≡ (step (record { sets = length sets.old; numbers = length numbers.old }) command (progress run.old)).1 }
+    ensures printed { OnOk result (Prints O.Output.printed out.old (line_of place (step (record { sets = length sets.old; numbers = length numbers.old }) command (progress run.old)).0) out.new) }
 {
     match run.execute(command, sets, numbers) {
         Ok(Reply::Silent) => Ok(()),

@@ -1,4 +1,6 @@
 // Scripts: strings of bytes that drive a station, and the lines that answer them.
+#![tactic(auto)]
+
 pub mod command;
 pub mod fault;
 pub mod interpreter;

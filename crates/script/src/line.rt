@@ -71,7 +71,7 @@ fn put_row<W: fmt::Write, N: fmt::Display>(
     word: &str,
     values: &[N],
 ) -> fmt::Result
-    ensures { DisplaysOnOk write_str_gives f.old result (option_append (Some word.now) (row output values.now)) f.new }
+    ensures { DisplaysOnOk W.write_str_gives f.old result (option_append (Some word.now) (row N.output values.now)) f.new }
 {
     write!(f, "{word}")?;
     for value in values {

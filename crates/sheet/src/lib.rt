@@ -1,4 +1,6 @@
 // A station's ratings, prices and withdrawals, and the figures that follow from them.
+#![tactic(auto)]
+
 pub mod cheapest;
 mod figure;
 pub mod importance;

@@ -1,4 +1,6 @@
 // Reads a script from standard input, runs it, and prints its lines.
+#![tactic(auto)]
+
 ghost use Rattle.std.specs.Prelude.{◌≤◌, length, IfOk};
 
 use script::interpreter::interpret;

@@ -1,4 +1,6 @@
 // Asks the library about the known stations, the longest lists and every coherent station of four parts, and prints its answers.
+#![tactic(auto)]
+
 mod fault;
 mod four_parts;
 mod largest;

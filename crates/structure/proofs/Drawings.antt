@@ -1,8 +1,8 @@
 -- What adding a set does to a list that takes it. Assumes nothing.
-use Rattle.std.proofs.Common.{◌≡◌, ℕ, ◌+◌, ◌^◌, ◌<◌, List, length, take, set, Ok, sym, refl, ap, ◌∙◌, arith}
+use Rattle.std.proofs.Common.{◌≡◌, ℕ, ◌+◌, ◌^◌, ◌<◌, List, length, take, set, Ok, ap, arith}
 use Rattle.std.proofs.lemmas.List.{take_more_set, length-take-le}
 use Rattle.std.proofs.lemmas.Bool.{lt-leb, ne_eqb}
-use Rattle.structure.specs.Drawings.{Drawing, added}
+use Rattle.structure.specs.Drawings.{added}
 
 pub add_taken : (n count p : ℕ) (sets : List ℕ) → length sets ≡ 64 → count < 64 → (p ≡ 0 → ⊥) → p < 2 ^ n → (Ok tt, record { order = n; sets = take (count + 1) (set sets count p) }) ≡ added p (record { order = n; sets = take count sets })
 add_taken n count p sets long room some fits =

@@ -1,12 +1,12 @@
 -- How the words of a table come to hold every yes and no of a structure. Assumes nothing.
-use Rattle.std.proofs.Common.{◌≡◌, ℕ, ◌+◌, ◌/◌, ◌%◌, ◌^◌, ◌<◌, ◌≤◌, Bool, true, false, ◌&&◌, eqb, ltb, ◌≢◌, List, length, get_or, set, replicate, sym, refl, ap, ◌∙◌, subst, ⊎_elim, arith}
+use Rattle.std.proofs.Common.{◌≡◌, ℕ, ◌+◌, ◌/◌, ◌%◌, ◌^◌, ◌<◌, ◌≤◌, true, false, ◌&&◌, eqb, ltb, ◌≢◌, List, length, get_or, set, replicate, sym, ap, ◌∙◌, ⊎_elim, arith}
 use lib.Bits.{bit_or}
 use Rattle.std.proofs.lemmas.List.{get_or-set_same, get_or-set_other, get_or-replicate, get_or_past, length-set, length-replicate}
 use Rattle.std.proofs.lemmas.Bool.{eq-eqb, ne_eqb, cases_eq, cases_lt, lt-ltb, le-ltb}
-use Rattle.structure.specs.Meanings.{Meaning, Raised, Monotone, Same}
-use Rattle.structure.specs.States.{Within, digit}
-use Rattle.structure.specs.Tables.{entry, tabled}
-use Rattle.structure.specs.Digits.{digit_or, digit_part_same, digit_part_other, digit_none, digit_bit, within_le}
+use Rattle.structure.specs.Meanings.{Meaning}
+use Rattle.structure.specs.States.{digit}
+use Rattle.structure.specs.Tables.{entry}
+use Rattle.structure.specs.Digits.{digit_or, digit_part_same, digit_part_other, digit_none, digit_bit}
 
 -- the words with the state s marked yes
 abbrev pub marked : List ℕ → ℕ → List ℕ

@@ -1,13 +1,12 @@
 -- Laws of the binary digits of states and sets. Assumes nothing.
-use Rattle.std.specs.Prelude.{◌≡◌, ℕ, zero, suc, ◌+◌, ◌-◌, ◌*◌, ◌/◌, ◌%◌, ◌^◌, ◌<◌, ◌≤◌, min, max, ◌≢◌, ◌⊎◌, bit_and, bit_or, count_ones, refl}
-use Rattle.std.proofs.Common.{sym, ap, ap₂, subst, ◌∙◌, inl, inr, ⊎_elim, pow-suc, div-one, mul_comm, mod-eq_of_lt, zero-lt-suc, mod-lt, add-one, one-add, arith, shr-shr, pow_pos, pow_mono}
+use Rattle.std.specs.Prelude.{◌≡◌, ℕ, zero, suc, ◌+◌, ◌-◌, ◌*◌, ◌/◌, ◌%◌, ◌^◌, ◌<◌, ◌≤◌, min, max, ◌≢◌, bit_and, bit_or, count_ones, refl}
+use Rattle.std.proofs.Common.{sym, ap, ap₂, ◌∙◌, ⊎_elim, pow-suc, div-one, mod-lt, add-one, one-add, arith, shr-shr, pow_pos, pow_mono}
 use Rattle.std.proofs.Math.Nat.{div-eq_of_lt}
-use Rattle.std.proofs.Math.Arith.{bin_ind, digits_div, digits_mod}
-use Rattle.std.proofs.Math.Pow.{high, low, split, field}
+use Rattle.std.proofs.Math.Arith.{bin_ind}
 use Rattle.std.specs.Int.Bits.{and_step, or_step}
 use Rattle.std.specs.Int.Count.{ones_step}
 use Rattle.std.proofs.lemmas.Nat.{one_shl, mod-pow-add, and_shr, or_shr, and_le_l, ones-le}
-use Rattle.std.proofs.lemmas.Bool.{cases_lt, cases_eq}
+use Rattle.std.proofs.lemmas.Bool.{cases_lt}
 use Rattle.structure.specs.States.{digit, Within, reversed, cleared, size}
 
 pub digit_low : (s : ℕ) → digit s 0 ≡ s % 2

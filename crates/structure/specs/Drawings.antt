@@ -1,7 +1,7 @@
 -- What a list of sets holds, and what start and add make of it. Assumes nothing.
-use Rattle.std.specs.Prelude.{◌≡◌, ℕ, ◌^◌, Bool, true, cond, ◌&&◌, List, [], ◌∷◌, ◌++◌, length, take, Some, None, Ok, Err, Option, Result, ◌==◌, nat_le}
+use Rattle.std.specs.Prelude.{ℕ, ◌^◌, cond, ◌&&◌, List, [], ◌∷◌, ◌++◌, length, take, Some, None, Ok, Err, Option, Result, ◌==◌, nat_le}
 use Rattle.structure.specs.declared.refusal.Refusal.{Refusal}
-use Rattle.structure.specs.declared.refusal.Refusal.TheVariants.{Order, Full, Empty, Stray, Threshold}
+use Rattle.structure.specs.declared.refusal.Refusal.TheVariants.{Order, Full, Empty, Stray}
 use Rattle.structure.specs.declared.set_list.SetList.{SetList}
 
 -- an order, and sets of parts in the order in which they were added

@@ -1,14 +1,14 @@
 -- Why every layer over monotone structures is monotone, and what two duals come to. Assumes nothing.
-use Rattle.std.specs.Prelude.{◌≡◌, ℕ, ◌-◌, ◌%◌, ◌^◌, ◌<◌, ◌≤◌, max, Bool, true, false, not, ◌&&◌, ◌||◌, refl}
-use Rattle.std.proofs.Common.{sym, ap, ap₂, ◌∙◌, ⊎_elim, mod-lt, mod-eq_of_lt, arith, pow_pos}
+use Rattle.std.specs.Prelude.{◌≡◌, ℕ, ◌-◌, ◌%◌, ◌^◌, ◌<◌, ◌≤◌, Bool, true, false, not, refl}
+use Rattle.std.proofs.Common.{sym, ap, ◌∙◌, ⊎_elim, mod-lt, mod-eq_of_lt, arith, pow_pos}
 use Rattle.std.proofs.Math.Pow.{mod-mod-pow}
 use Rattle.std.proofs.lemmas.Bool.{and_parts, and_from, or_cases, or_left, or_right, not-true, not_from_false, both_ways, cases_Bool}
 use Rattle.structure.specs.declared.pair.Rule.{Rule}
 use Rattle.structure.specs.declared.pair.Rule.TheVariants.{Both, Either}
 use Rattle.structure.specs.Layers.{dual, hold, pair, joined}
 use Rattle.structure.specs.Meanings.{Meaning, Monotone, Same}
-use Rattle.structure.specs.States.{Within, reversed, cleared}
-use Rattle.structure.specs.Digits.{reversed_below, reversed_twice, reversed_within, cleared_below, cleared_within, mod_within, within_below}
+use Rattle.structure.specs.States.{reversed, cleared}
+use Rattle.structure.specs.Digits.{reversed_below, reversed_twice, reversed_within, cleared_below, cleared_within, mod_within}
 
 pub dual_monotone : (m : Meaning) → Monotone m → Monotone (dual m)
 dual_monotone m mono x y h =

@@ -1,11 +1,11 @@
 -- Why path lists, cut lists and k-out-of-n structures are monotone, and how a walk along a list decides them. Assumes nothing.
-use Rattle.std.specs.Prelude.{◌≡◌, ℕ, ◌+◌, ◌^◌, ◌<◌, ◌≤◌, Bool, true, false, not, ◌&&◌, ◌||◌, List, [], ◌∷◌, length, drop, ◌==◌, bit_and, slice_index, refl}
-use Rattle.std.proofs.Common.{sym, ap, subst, ◌∙◌, ⊎_elim, arith}
+use Rattle.std.specs.Prelude.{◌≡◌, ℕ, ◌+◌, ◌<◌, ◌≤◌, Bool, true, false, ◌&&◌, ◌||◌, List, [], ◌∷◌, length, drop, ◌==◌, bit_and, slice_index}
+use Rattle.std.proofs.Common.{sym, ap, ◌∙◌, ⊎_elim, arith}
 use Rattle.std.proofs.lemmas.List.{drop_more}
 use Rattle.std.proofs.lemmas.Bool.{and_parts, and_from, or_cases, or_left, or_right, not-true, not_from_false, eqb-true, eqb-false, eq-eqb, ne_eqb, leb-true, le-leb}
 use Rattle.structure.specs.Drawings.{Drawing}
 use Rattle.structure.specs.Kinds.{any, all, covers, meets, path_list, cut_list, k_out_of_n}
-use Rattle.structure.specs.Meanings.{Meaning, Monotone}
+use Rattle.structure.specs.Meanings.{Monotone}
 use Rattle.structure.specs.States.{Within}
 use Rattle.structure.specs.Digits.{digit_and, and_within, within_and, within_trans, within_le, size_within}
 

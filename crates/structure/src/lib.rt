@@ -1,4 +1,6 @@
 // Two-state monotone structures of 1 to 16 parts: path lists, cut lists, k-out-of-n, layers and the table.
+#![tactic(auto)]
+
 pub mod cut_list;
 pub mod dual;
 pub mod hold;

@@ -1,5 +1,5 @@
 use Rattle.std.proofs.Common.{◌-◌, ◌≤◌, length}
-use Rattle.station.proofs.read_input.Given as goal
+use Rattle.book_station.proofs.read_input.Given as goal
 
 abbrev pub invariant-loop-filled : goal.invariant-loop-filled
 invariant-loop-filled l = l.filled ≤ length l.input

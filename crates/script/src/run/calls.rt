@@ -39,8 +39,8 @@ impl Run {
         sets: &mut [u16],
         numbers: &mut [u64],
     ) -> Result<Reply, Fault>
-        ensures now { progress self.new ≡ (step (record { sets = length sets.entry.now; numbers = length numbers.old }) command (progress self.old)).1 }
-        ensures answer { said result sets.exit.now numbers.new ≡ (step (record { sets = length sets.entry.now; numbers = length numbers.old }) command (progress self.old)).0 }
+        ensures now { progress self.new ≡ (step (record { sets = length sets.old; numbers = length numbers.old }) command (progress self.old)).1 }
+        ensures answer { said result sets.new numbers.new ≡ (step (record { sets = length sets.old; numbers = length numbers.old }) command (progress self.old)).0 }
         ensures sets { sets.new ≡ sets_after command (progress self.old) sets.old }
         ensures numbers { numbers.new ≡ numbers_after command (progress self.old) numbers.old }
         ensures within { Inside result (length sets.new) (length numbers.new) }

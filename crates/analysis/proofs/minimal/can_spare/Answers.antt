@@ -1,15 +1,14 @@
-use Rattle.std.proofs.Common.{◌≡◌, ◌-◌, ◌*◌, ◌%◌, ◌^◌, ◌&&◌, sym, refl, ap, ◌∙◌, arith}
+use Rattle.std.proofs.Common.{◌-◌, ◌^◌, ◌&&◌, sym, ap, ◌∙◌, arith}
 use Rattle.std.proofs.lemmas.Bool.{eq-eqb, ne_eqb}
 use Rattle.structure.specs.States.{digit}
 use Rattle.structure.specs.Digits.{shifted}
 use Rattle.analysis.specs.Minimal.{does}
 use Rattle.analysis.proofs.Sets.{part_le}
-use Rattle.analysis.proofs.minimal.can_spare.Given as given
 use Rattle.analysis.proofs.minimal.can_spare.Goals as goal
 
-pub overflow-sub-set : goal.overflow-sub-set
+pub overflow_sub-set : goal.overflow_sub-set
 unfolding digit
-overflow-sub-set g c =
+overflow_sub-set g c =
     let sized = g.met.S.Structure.sized c.args.structure.now in
     omega (arith, shifted c.args.part (omega (arith, sized, c.requires.1)), part_le c.args.set c.args.part c.if-set-part-eq1.true)
 
@@ -18,7 +17,7 @@ unfolding digit
 returns-then-set-part-eq1 g c =
     let m = g.S.Structure.meaning c.args.structure.now in
     let sized = g.met.S.Structure.sized c.args.structure.now in
-    c.does-its-work.ensures
+    c.does_its_work.ensures
     ∙ ap (λ x. does c.args.role m (c.args.set - x)) (shifted c.args.part (omega (arith, sized, c.requires.1)))
     ∙ sym (ap (λ b. b && does c.args.role m (c.args.set - 2 ^ c.args.part)) (eq-eqb _ 1 c.if-set-part-eq1.true))
 

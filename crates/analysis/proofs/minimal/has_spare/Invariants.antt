@@ -1,4 +1,4 @@
-use Rattle.std.proofs.Common.{◌≡◌, ◌≤◌}
+use Rattle.std.proofs.Common.{◌≡◌}
 use Rattle.structure.specs.Kinds.{any}
 use Rattle.analysis.specs.Minimal.{rising, spare}
 use Rattle.analysis.proofs.Rising.{up_from}

@@ -10,7 +10,7 @@ use Rattle.analysis.proofs.redraw.redraw_cuts.Goals as goal
 pub returns : goal.returns
 returns g c =
     let m = g.S.Structure.meaning c.args.structure.now in
-    let told = c.in-ok-list.ensures in
+    let told = c.in_ok-list.ensures in
     let drawn : ◌≡◌ {A = Drawing} (drawing c.of.result.list) (record { order = m.order; sets = minimal_sets Cut m }) = search rules in
     record {
       drawn = (search rules, drawn);

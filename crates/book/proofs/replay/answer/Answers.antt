@@ -1,4 +1,4 @@
-use Rattle.std.proofs.Common.{◌≡◌, Ok, Err, sym, refl, ap, ◌∙◌, subst}
+use Rattle.std.proofs.Common.{Ok, Err, sym, refl, ap, ◌∙◌, subst}
 use Rattle.book.specs.declared.answer.Answer.TheVariants.{Figure}
 use Rattle.book.specs.Following.{Followed}
 use Rattle.book.proofs.Replaying.{book_rated, book_priced, book_taken_out, book_put_back, book_figure_lem, book_importance_lem, book_weighed, importance_said}
@@ -33,11 +33,11 @@ returns-in-Withdraw g c = record {
 
 pub returns-in-PutBack : goal.returns-in-PutBack
 returns-in-PutBack g c = record {
-  opened = c.put-back.ensures.opened;
+  opened = c.put_back.ensures.opened;
   spared = refl;
   follows = λ m past saw.
-      let told = book_put_back c.args.book.now saw c.put-back.new.self c.put-back.result c.done-in-PutBack.result c.put-back.ensures.opened c.done-in-PutBack.ensures c.in-PutBack.part c.put-back.ensures.entered in
-      subst (λ call. Followed g.W.Weight m past call c.put-back.new.self c.done-in-PutBack.result) (sym c.in-PutBack.is) (record { answers = told.0; saw = told.1 });
+      let told = book_put_back c.args.book.now saw c.put_back.new.self c.put_back.result c.done-in-PutBack.result c.put_back.ensures.opened c.done-in-PutBack.ensures c.in-PutBack.part c.put_back.ensures.entered in
+      subst (λ call. Followed g.W.Weight m past call c.put_back.new.self c.done-in-PutBack.result) (sym c.in-PutBack.is) (record { answers = told.0; saw = told.1 });
 }
 
 pub returns-in-Figure : goal.returns-in-Figure

@@ -1,6 +1,5 @@
-use Rattle.std.proofs.Common.{◌≡◌, ℕ, ◌-◌, ◌<◌, min, length, get_or, drop, sym, refl, ap, ◌∙◌, arith}
+use Rattle.std.proofs.Common.{◌≡◌, ◌-◌, min, length, get_or, sym, ap, ◌∙◌, arith}
 use Rattle.std.proofs.lemmas.List.{get_or_append_left, get_or_default}
-use Rattle.sheet.specs.declared.refusal.Refusal.TheVariants.{Analysis}
 use Rattle.book.specs.declared.answer.Answer.TheVariants.{Refused, Weighed}
 use Rattle.book.specs.Books.{stands}
 use Rattle.book.proofs.LentSlots.{lent_spared, lent_said, lent_some, said}

@@ -1,4 +1,4 @@
-use Rattle.std.proofs.Common.{◌≡◌, ℕ, ◌+◌, ◌<◌, length, drop, Some, None, Ok, sym, refl, ap, ◌∙◌, subst, ap₂, arith, rules}
+use Rattle.std.proofs.Common.{◌≡◌, ◌+◌, ◌<◌, drop, Some, None, Ok, sym, refl, ◌∙◌, subst, ap₂, arith, rules}
 use Rattle.std.proofs.lemmas.List.{drop-drop}
 use Rattle.book_script.specs.Language.{Room, step}
 use Rattle.book_script.specs.Printing.{Prints}
@@ -34,7 +34,7 @@ loop-command-preserved g c p stood =
       stands = subst (λ k. Stands c.answer.new.run (step k command was.here).1) room (c.answer.ensures.stands was.here was.stands);
       going = going_more was.going c.place-place.result command _ _ _
           one
-          (subst (λ k. Prints g.O-as-Output.printed c.loop-command.out (line_of c.place-place.result (step k command was.here).0) c.answer.new.out) room (c.in-ok-answer.ensures.printed was.here was.stands))
+          (subst (λ k. Prints g.O.Output.printed c.loop-command.out (line_of c.place-place.result (step k command was.here).0) c.answer.new.out) room (c.in_ok-answer-in-Ok-Some.ensures.printed was.here was.stands))
           refl;
       sets = sets_more (room_of c.args.sets.now c.args.numbers.now) _ _ c.place-place.result command was.here c.loop-command.sets c.answer.new.sets one (c.answer.ensures.sets was.here was.stands) ∙ was.sets;
       numbers = numbers_more (room_of c.args.sets.now c.args.numbers.now) _ _ c.place-place.result command was.here c.loop-command.numbers c.answer.new.numbers one (c.answer.ensures.numbers was.here was.stands) ∙ was.numbers;

@@ -1,4 +1,4 @@
-use Rattle.std.proofs.Common.{◌≡◌, ◌-◌, length}
+use Rattle.std.proofs.Common.{◌-◌, length}
 use Rattle.book_script.specs.Language.{Progress}
 use Rattle.book_script.specs.Readers.{whole, unread}
 use Rattle.book_script.specs.Runs.{Stands}
@@ -8,7 +8,7 @@ use Rattle.book_script.proofs.interpreter.each_command.Given as goal
 
 abbrev pub invariant-loop-command : goal.invariant-loop-command
 invariant-loop-command g l =
-    (p : Progress) → Stands l.initial.run p → Reached g.O-as-Output.printed (record { sets = l.initial.sets; numbers = l.initial.numbers }) (read_from 0 l.initial.reader.place (unread l.initial.reader)) p l.initial.out
+    (p : Progress) → Stands l.initial.run p → Reached g.O.Output.printed (record { sets = l.initial.sets; numbers = l.initial.numbers }) (read_from 0 l.initial.reader.place (unread l.initial.reader)) p l.initial.out
     (read_from 0 l.reader.place (unread l.reader)) l.run l.out (record { sets = l.sets; numbers = l.numbers })
 
 abbrev pub decreases-loop-command : goal.decreases-loop-command

@@ -1,4 +1,4 @@
-use Rattle.std.proofs.Common.{◌≡◌, ℕ, ◌+◌, ◌<◌, length, drop, Some, Ok, sym, refl, ap, ◌∙◌, subst, ap₂, arith, rules}
+use Rattle.std.proofs.Common.{◌≡◌, ℕ, ◌+◌, ◌<◌, length, drop, Some, Ok, sym, ap, ◌∙◌, subst, ap₂, arith, rules}
 use Rattle.std.proofs.lemmas.List.{drop-drop}
 use Rattle.script.specs.Language.{Room, step}
 use Rattle.script.specs.Printing.{Prints}
@@ -28,5 +28,5 @@ loop-command-preserved g c =
     ap₂ room_of c.loop-command.auto.sets c.loop-command.auto.numbers in
     going_more c.loop-command.invariant c.place-place.result c.in-Ok-Some.command _ _ _
     (read_command at bytes c.in-Ok-Some.command found some ∙ ap₂ (λ k r. one_then k c.in-Ok-Some.command r) (sym c.place-place.ensures) left)
-    (subst (λ k. Prints g.O-as-Output.printed c.loop-command.out (line_of c.place-place.result (step k c.in-Ok-Some.command (progress c.loop-command.run)).0) c.answer.new.out) room c.in-ok-answer.ensures.printed)
+    (subst (λ k. Prints g.O.Output.printed c.loop-command.out (line_of c.place-place.result (step k c.in-Ok-Some.command (progress c.loop-command.run)).0) c.answer.new.out) room c.in_ok-answer-in-Ok-Some.ensures.printed)
     (c.answer.ensures.now ∙ ap (λ k. (step k c.in-Ok-Some.command (progress c.loop-command.run)).1) room)

@@ -4,21 +4,21 @@ use Rattle.sheet.specs.Weakest.{figure_without_or_refusal}
 use Rattle.sheet.proofs.Losses.{Sofar, sofar_passed, sofar_met, sofar_all, tried_in_service, refused_out}
 use Rattle.sheet.proofs.Naming.{weakest_told}
 use Rattle.sheet.proofs.weakest.weakest.Goals as goal
-use Rattle.sheet.proofs.weakest.weakest.Goals.{in-Ok, in-default}
+use Rattle.sheet.proofs.weakest.weakest.Goals.{in-Ok, in_default}
 
 pub loop-part-preserved : goal.loop-part-preserved
 loop-part-preserved g c =
     let m = g.S.Structure.meaning c.args.structure.now in
     let p = page c.args.sheet.now in
     let part = c.loop-part.part in
-    let told : c.figure-without.result ≡ figure_without_or_refusal m p part = c.figure-without.ensures.answer ∙ ap (λ q. figure_without_or_refusal m q part) c.loop-part.invariant.0 in (
-      c.figure-without.ensures.kept ∙ c.loop-part.invariant.0,
-      elim c.match-figure-without.branch [
+    let told : c.figure_without.result ≡ figure_without_or_refusal m p part = c.figure_without.ensures.answer ∙ ap (λ q. figure_without_or_refusal m q part) c.loop-part.invariant.0 in (
+      c.figure_without.ensures.kept ∙ c.loop-part.invariant.0,
+      elim c.match-figure_without.branch [
         | in-Ok w ↦
             let tried = tried_in_service m p part w.in-Ok.figure (sym w.in-Ok.is ∙ told) in
             subst (Sofar m p (part + 1)) (sym w.lowest-is) (sofar_met m p part w.in-Ok.figure c.loop-part.lowest w.lower.result tried.0 tried.1 w.lower.ensures c.loop-part.invariant.1)
-        | in-default w ↦
-            let out = refused_out m p part w.in-default.field-0 (sym w.in-default.is ∙ told) in
+        | in_default w ↦
+            let out = refused_out m p part w.in_default.field-0 (sym w.in_default.is ∙ told) in
             subst (Sofar m p (part + 1)) (sym w.lowest-is) (sofar_passed m p part c.loop-part.lowest out c.loop-part.invariant.1)
       ],
     )

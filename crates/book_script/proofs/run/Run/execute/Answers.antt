@@ -39,10 +39,10 @@ pub returns-in-Open-PutBack : goal.returns-in-Open-PutBack
 returns-in-Open-PutBack c = record {
   executed = λ p stood.
       let was = entered c.args.self.now.book in
-      let is : (c.put-back.result, entered c.put-back.new.self) ≡ altered (put_back c.in-Open-PutBack.part was.page) was = search rules in
-      put_back_executed c.args.self.now c.in-Open-PutBack.is-0 p stood c.args.command c.args.sets.now c.args.numbers.now c.put-back.new.self c.put-back.ensures.opened
-      c.put-back.result c.done-in-Open-PutBack.result c.done-in-Open-PutBack.ensures c.in-Open-PutBack.part c.in-Open-PutBack.is-1 is;
-  within = counts_none c.put-back.result c.done-in-Open-PutBack.result c.done-in-Open-PutBack.ensures _ _;
+      let is : (c.put_back.result, entered c.put_back.new.self) ≡ altered (put_back c.in-Open-PutBack.part was.page) was = search rules in
+      put_back_executed c.args.self.now c.in-Open-PutBack.is-0 p stood c.args.command c.args.sets.now c.args.numbers.now c.put_back.new.self c.put_back.ensures.opened
+      c.put_back.result c.done-in-Open-PutBack.result c.done-in-Open-PutBack.ensures c.in-Open-PutBack.part c.in-Open-PutBack.is-1 is;
+  within = counts_none c.put_back.result c.done-in-Open-PutBack.result c.done-in-Open-PutBack.ensures _ _;
 }
 
 pub returns-in-Open-Figure : goal.returns-in-Open-Figure
@@ -58,23 +58,23 @@ returns-in-Open-Figure c = record {
 pub returns-in-Open-Tally : goal.returns-in-Open-Tally
 returns-in-Open-Tally c = record {
   executed = λ p stood.
-      tally_executed c.args.self.now c.in-Open-Tally.is-0 p stood c.args.command c.args.sets.now c.args.numbers.now c.tell-tally.new.places c.tell-tally.result
-      c.in-Open-Tally.is-1 (c.tell-tally.ensures.answer c.args.sets.now) c.tell-tally.ensures.places;
-  within = c.tell-tally.ensures.within _;
+      tally_executed c.args.self.now c.in-Open-Tally.is-0 p stood c.args.command c.args.sets.now c.args.numbers.now c.tell_tally.new.places c.tell_tally.result
+      c.in-Open-Tally.is-1 (c.tell_tally.ensures.answer c.args.sets.now) c.tell_tally.ensures.places;
+  within = c.tell_tally.ensures.within _;
 }
 
 pub returns-in-Open-Signature : goal.returns-in-Open-Signature
 returns-in-Open-Signature c = record {
   executed = λ p stood.
-      signature_executed c.args.self.now c.in-Open-Signature.is-0 p stood c.args.command c.args.sets.now c.args.numbers.now c.tell-signature.new.places c.tell-signature.result
-      c.in-Open-Signature.is-1 (c.tell-signature.ensures.answer c.args.sets.now) c.tell-signature.ensures.places;
-  within = c.tell-signature.ensures.within _;
+      signature_executed c.args.self.now c.in-Open-Signature.is-0 p stood c.args.command c.args.sets.now c.args.numbers.now c.tell_signature.new.places c.tell_signature.result
+      c.in-Open-Signature.is-1 (c.tell_signature.ensures.answer c.args.sets.now) c.tell_signature.ensures.places;
+  within = c.tell_signature.ensures.within _;
 }
 
 pub returns-in-Open-Cuts : goal.returns-in-Open-Cuts
 returns-in-Open-Cuts c = record {
   executed = λ p stood.
-      cuts_executed c.args.self.now c.in-Open-Cuts.is-0 p stood c.args.command c.args.sets.now c.args.numbers.now c.tell-cuts.new.places c.tell-cuts.result
-      c.in-Open-Cuts.is-1 (c.tell-cuts.ensures.answer c.args.numbers.now) c.tell-cuts.ensures.places;
-  within = c.tell-cuts.ensures.within _;
+      cuts_executed c.args.self.now c.in-Open-Cuts.is-0 p stood c.args.command c.args.sets.now c.args.numbers.now c.tell_cuts.new.places c.tell_cuts.result
+      c.in-Open-Cuts.is-1 (c.tell_cuts.ensures.answer c.args.numbers.now) c.tell_cuts.ensures.places;
+  within = c.tell_cuts.ensures.within _;
 }

@@ -7,7 +7,7 @@ use Rattle.sheet.proofs.sheet.Sheet.ratings.Goals as goal
 pub loop-part-preserved : goal.loop-part-preserved
 loop-part-preserved c = (
   length-set c.loop-part.ratings c.loop-part.part _ ∙ c.loop-part.invariant.0,
-  ratings_more c.args.self.now.rows c.loop-part.ratings c.loop-part.part _ (omega arith) (omega arith) c.rating-in-force.ensures c.loop-part.invariant.1,
+  ratings_more c.args.self.now.rows c.loop-part.ratings c.loop-part.part _ (omega arith) (omega arith) c.rating_in_force.ensures c.loop-part.invariant.1,
 )
 
 pub returns : goal.returns

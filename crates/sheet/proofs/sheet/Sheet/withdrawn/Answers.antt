@@ -4,19 +4,19 @@ use Rattle.structure.specs.States.{digit}
 use Rattle.sheet.specs.Sheets.{failed_below}
 use Rattle.sheet.proofs.FailedParts.{failed_fits, failed_more, failed_digit}
 use Rattle.sheet.proofs.sheet.Sheet.withdrawn.Goals as goal
-use Rattle.sheet.proofs.sheet.Sheet.withdrawn.Goals.{then-counts-as-failed, else-counts-as-failed}
+use Rattle.sheet.proofs.sheet.Sheet.withdrawn.Goals.{then-counts_as_failed, else-counts_as_failed}
 
-pub overflow-add-set : goal.overflow-add-set
-overflow-add-set c =
+pub overflow_add-set : goal.overflow_add-set
+overflow_add-set c =
     omega (arith, c.loop-part.invariant, one_shl c.loop-part.part 16 (omega arith), failed_fits c.loop-part.part c.args.self.now.rows (omega arith))
 
 pub loop-part-preserved : goal.loop-part-preserved
 loop-part-preserved c =
     let part = c.loop-part.part in
     let rows = c.args.self.now.rows in
-    elim c.if-counts-as-failed.branch [
-      | then-counts-as-failed w ↦ omega (arith, w.set-is, c.loop-part.invariant, one_shl part 16 (omega arith), failed_more true part rows (sym c.counts-as-failed.ensures ∙ w.if-counts-as-failed.true))
-      | else-counts-as-failed w ↦ omega (arith, w.set-is, c.loop-part.invariant, failed_more false part rows (sym c.counts-as-failed.ensures ∙ w.if-counts-as-failed.false))
+    elim c.if-counts_as_failed.branch [
+      | then-counts_as_failed w ↦ omega (arith, w.set-is, c.loop-part.invariant, one_shl part 16 (omega arith), failed_more true part rows (sym c.counts_as_failed.ensures ∙ w.if-counts_as_failed.true))
+      | else-counts_as_failed w ↦ omega (arith, w.set-is, c.loop-part.invariant, failed_more false part rows (sym c.counts_as_failed.ensures ∙ w.if-counts_as_failed.false))
     ]
 
 pub returns : goal.returns

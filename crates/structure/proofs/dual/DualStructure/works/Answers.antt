@@ -1,4 +1,4 @@
-use Rattle.std.proofs.Common.{◌≡◌, ◌%◌, ◌^◌, rules}
+use Rattle.std.proofs.Common.{◌%◌, ◌^◌, rules}
 use Rattle.structure.specs.States.{reversed}
 use Rattle.structure.specs.Digits.{reversed_below}
 use Rattle.structure.specs.LayersLemmas.{asked_whole}

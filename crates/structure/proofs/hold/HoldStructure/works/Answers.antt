@@ -1,4 +1,4 @@
-use Rattle.std.proofs.Common.{◌≡◌, ◌%◌, ◌^◌, mod-lt, pow_pos, rules}
+use Rattle.std.proofs.Common.{◌%◌, ◌^◌, mod-lt, pow_pos, rules}
 use Rattle.structure.specs.States.{cleared}
 use Rattle.structure.specs.Digits.{cleared_below}
 use Rattle.structure.specs.LayersLemmas.{asked_whole}

@@ -1,10 +1,9 @@
-use Rattle.std.proofs.Common.{◌≡◌, ℕ, ◌+◌, ◌*◌, ◌/◌, ◌%◌, ◌^◌, ◌<◌, List, get_or, set, sym, ap, ◌∙◌, subst, arith}
+use Rattle.std.proofs.Common.{◌≡◌, ℕ, ◌+◌, ◌*◌, ◌/◌, ◌%◌, ◌^◌, List, get_or, set, sym, ap, ◌∙◌, subst, arith}
 use lib.Bits.{bit_or}
 use Rattle.std.proofs.lemmas.Nat.{one_shl}
-use Rattle.structure.specs.Digits.{shifted, walked}
+use Rattle.structure.specs.Digits.{walked}
 use Rattle.structure.specs.LayersLemmas.{asked_whole}
 use Rattle.structure.proofs.Tables.{marked, Filled, filled_none, filled_yes, filled_no}
-use Rattle.structure.proofs.table.Table.fill.Given as given
 use Rattle.structure.proofs.table.Table.fill.Goals as goal
 use Rattle.structure.proofs.table.Table.fill.Goals.{then-works, else-works}
 

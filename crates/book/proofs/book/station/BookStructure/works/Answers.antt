@@ -5,8 +5,8 @@ use Rattle.book.specs.Books.{opened}
 use Rattle.book.proofs.Asking.{cleared_mod}
 use Rattle.book.proofs.book.station.BookStructure.works.Goals as goal
 
-pub overflow-sub-state : goal.overflow-sub-state
-overflow-sub-state c = and_le_l c.args.state _
+pub overflow_sub-state : goal.overflow_sub-state
+overflow_sub-state c = and_le_l c.args.state _
 
 pub returns : goal.returns
 unfolding cleared
