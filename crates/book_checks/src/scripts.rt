@@ -18,7 +18,8 @@ impl Output for Page {
     ghost printed = { λ _ _ _. Unit {0} };
 
     fn print<L: Display>(&mut self, line: &L) -> fmt::Result {
-        writeln!(self.text, "{line}")
+        writeln!(self.text, "{line}")?;
+        Ok(())
     }
 }
 
