@@ -95,11 +95,23 @@ def ghost_only(text, turn):
     return TOKEN.sub(lambda m: turn.get(m.group(1), m.group(1)), text)
 
 
+def with_aliases(text, turn):
+    """The table for one file: what it imports under another name has no name elsewhere."""
+    here = dict(turn)
+    for name in re.findall(r" as ([a-z]\w*(?:-\w+)+)[,}]", text):
+        if name not in here:
+            if re.search(rf"(?<![\w-]){snake(name)}(?![\w-])", text):
+                print("kept, its spelling is another's in that file:", name)
+            else:
+                here[name] = snake(name)
+    return here
+
+
 def main():
     turn = mapping()
     for path in files(".antt", ".rt"):
         old = read(path)
-        new = ghost_only(old, turn)
+        new = ghost_only(old, with_aliases(old, turn))
         if new != old:
             with open(path, "w", encoding="utf-8") as f:
                 f.write(new)

@@ -10,7 +10,7 @@ use Rattle.sheet.specs.Figure.{floor}
 use Rattle.sheet.specs.Importance.{importance_at}
 use Rattle.sheet.specs.Sheets.{rated, priced, taken_out, put_back}
 use Rattle.book.specs.declared.answer.Answer.{Answer}
-use Rattle.book.specs.declared.answer.Answer.TheVariants.{Refused, Importance as importance-is}
+use Rattle.book.specs.declared.answer.Answer.TheVariants.{Refused, Importance as importance_is}
 use Rattle.book.specs.declared.book.Book.{Book}
 use Rattle.book.specs.declared.figure.Figure.{Figure}
 use Rattle.book.specs.Agreement.{Agreed}
@@ -25,7 +25,7 @@ use Rattle.book.proofs.Sameness.{weighed_same}
 
 -- an importance, as it is told
 abbrev pub importance_said : {W : Type 0} → Result ℕ Refusal → Answer W
-importance_said (Ok units) = importance-is units
+importance_said (Ok units) = importance_is units
 importance_said (Err why) = Refused why
 
 module _ {m : Meaning} {past : List Deed} (book : Book) (saw : Saw m past book) where
@@ -58,12 +58,12 @@ module _ {m : Meaning} {past : List Deed} (book : Book) (saw : Saw m past book) 
         (subst (Agreed m (AskFigure ∷ past) (opened book)) (ap (λ x. x.1) (sym is)) (follow.figure_agrees saw sized book.entries.sheet.whole)),
   )
 
-  pub book_importance_lem : {W : Type 0} (part : ℕ) → ◌≡◌ {A = Answer W} (importance_said (book_importance (opened book) (entered book) part)) (cond (ltb part m.order) (importance-is (importance_after floor m past part)) (Refused Part))
+  pub book_importance_lem : {W : Type 0} (part : ℕ) → ◌≡◌ {A = Answer W} (importance_said (book_importance (opened book) (entered book) part)) (cond (ltb part m.order) (importance_is (importance_after floor m past part)) (Refused Part))
   book_importance_lem {W} part =
       ap (λ n. importance_said {W = W} (cond (ltb part n) (Ok (importance_at (opened book) (entered book).page part)) (Err Part))) saw.opened.order ∙ by_test (ltb part m.order) refl
     where
-      by_test : (b : Bool) → ltb part m.order ≡ b → ◌≡◌ {A = Answer W} (importance_said (cond b (Ok (importance_at (opened book) (entered book).page part)) (Err Part))) (cond b (importance-is (importance_after floor m past part)) (Refused Part))
-      by_test true e = ap importance-is (follow.importance_said_lem saw sized book.entries.sheet.whole part (ltb-true part m.order e))
+      by_test : (b : Bool) → ltb part m.order ≡ b → ◌≡◌ {A = Answer W} (importance_said (cond b (Ok (importance_at (opened book) (entered book).page part)) (Err Part))) (cond b (importance_is (importance_after floor m past part)) (Refused Part))
+      by_test true e = ap importance_is (follow.importance_said_lem saw sized book.entries.sheet.whole part (ltb-true part m.order e))
       by_test false e = refl
 
   -- a sum is over the states in which the station as it stands works

@@ -9,20 +9,20 @@ use Rattle.sheet.specs.declared.refusal.Refusal.{Refusal}
 use Rattle.sheet.specs.declared.refusal.Refusal.TheVariants.{Part, Analysis}
 use Rattle.sheet.specs.Figure.{floor}
 use Rattle.book.specs.declared.answer.Answer.{Answer}
-use Rattle.book.specs.declared.answer.Answer.TheVariants.{Done, Refused, Weighed, Figure as figure-is, Importance as importance-is}
+use Rattle.book.specs.declared.answer.Answer.TheVariants.{Done, Refused, Weighed, Figure as figure_is, Importance as importance_is}
 use Rattle.book.specs.declared.call.Call.{Call}
 use Rattle.book.specs.declared.call.Call.TheVariants.{Rate, Price, Withdraw, PutBack, Figure, Importance, Weigh}
 use Rattle.book.specs.declared.figure.Figure.{Figure as FigureAnswer}
-use Rattle.book.specs.History.{Deed, Rate as rate, SetPrice as set-price, Withdraw as withdraw, PutBack as put_back, AskFigure as ask-figure, held, verdict, next}
+use Rattle.book.specs.History.{Deed, Rate as rate, SetPrice as set_price, Withdraw as withdraw, PutBack as put_back, AskFigure as ask_figure, held, verdict, next}
 use Rattle.book.specs.Standing.{standing, figure_after, importance_after}
 
 -- what a call does to the station's history, if it is one that does anything
 abbrev pub deed_of : {W : Type 0} → Call W → Option Deed
 deed_of (Rate part rating) = Some (rate part rating)
-deed_of (Price part price) = Some (set-price part price)
+deed_of (Price part price) = Some (set_price part price)
 deed_of (Withdraw part) = Some (withdraw part)
 deed_of (PutBack part) = Some (put_back part)
-deed_of Figure = Some ask-figure
+deed_of Figure = Some ask_figure
 deed_of (Importance part) = None
 deed_of (Weigh up down slots) = None
 
@@ -60,9 +60,9 @@ module _ {W : Type 0} (weight : Ghosts W) (m : Meaning) where
   -- what a call answers after a past, of a station opened on m
   abbrev pub answer_to : List Deed → Call W → Answer W
   answer_to past (Rate part rating) = ruled (verdict m.order past (rate part rating))
-  answer_to past (Price part price) = ruled (verdict m.order past (set-price part price))
+  answer_to past (Price part price) = ruled (verdict m.order past (set_price part price))
   answer_to past (Withdraw part) = ruled (verdict m.order past (withdraw part))
   answer_to past (PutBack part) = ruled (verdict m.order past (put_back part))
-  answer_to past Figure = figure-is (figure_then m past)
-  answer_to past (Importance part) = cond (nat_lt part m.order) (importance-is (importance_after floor m past part)) (Refused Part)
+  answer_to past Figure = figure_is (figure_then m past)
+  answer_to past (Importance part) = cond (nat_lt part m.order) (importance_is (importance_after floor m past part)) (Refused Part)
   answer_to past (Weigh up down slots) = weighed_unless (weigh_refused_with m.order up.now down.now slots) (weighed weight (standing m past) up.now down.now)

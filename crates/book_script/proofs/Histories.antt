@@ -8,14 +8,14 @@ use Rattle.structure.specs.Kinds.{path_list}
 use Rattle.structure.specs.Meanings.{Sized}
 use Rattle.book.specs.declared.call.Call.{Call}
 use Rattle.book.specs.Answers.{deed_of, onward, past_after}
-use Rattle.book.specs.History.{Deed, Rate as rate, SetPrice as set-price, Withdraw as withdraw, PutBack as put_back, AskFigure as ask-figure, next}
+use Rattle.book.specs.History.{Deed, Rate as rate, SetPrice as set_price, Withdraw as withdraw, PutBack as put_back, AskFigure as ask_figure, next}
 use Rattle.book.proofs.Acceptance.{Sound, next_sound}
 use Rattle.book.proofs.Histories.{told}
 use Rattle.book.proofs.Standings.{figure_close}
 use Rattle.book_script.specs.declared.command.Command.{Command}
 use Rattle.book_script.specs.declared.command.Command.TheVariants.{Start, Add, Open, Rate, Price, Withdraw, PutBack, Figure, Tally, Signature, Cuts}
 use Rattle.book_script.specs.declared.stage.Stage.{Stage}
-use Rattle.book_script.specs.declared.stage.Stage.TheVariants.{Blank, Drawing as in-drawing, Open as opened}
+use Rattle.book_script.specs.declared.stage.Stage.TheVariants.{Blank, Drawing as in_drawing, Open as opened}
 use Rattle.book_script.specs.Histories.{OfHistory, at_end, before, call_at, call_of, calls_in}
 use Rattle.book_script.specs.Language.{Progress, Room, begun, drawing_on, ground, same, step}
 use Rattle.book_script.specs.Scripts.{Placed, leaves}
@@ -67,7 +67,7 @@ drawn_on p None new fresh shut sized fits = record {
 }
 drawn_on p (Some why) new fresh shut sized fits = stays p fresh sized
 
-opens : (d : Drawing) (h : List Deed) → Fresh (at in-drawing d h) → Sized (path_list d) → Steps (at in-drawing d h) (at opened d []) None
+opens : (d : Drawing) (h : List Deed) → Fresh (at in_drawing d h) → Sized (path_list d) → Steps (at in_drawing d h) (at opened d []) None
 opens d h fresh sized = record {
   past = sym (fresh refl);
   fresh = λ e. refl;
@@ -95,25 +95,25 @@ steps room Figure Blank d h fresh sized = stays (at Blank d h) fresh sized
 steps room Tally Blank d h fresh sized = stays (at Blank d h) fresh sized
 steps room Signature Blank d h fresh sized = stays (at Blank d h) fresh sized
 steps room Cuts Blank d h fresh sized = stays (at Blank d h) fresh sized
-steps room (Start order) in-drawing d h fresh sized = stays (at in-drawing d h) fresh sized
-steps room (Add set) in-drawing d h fresh sized = drawn_on (at in-drawing d h) (set_refused d set) (record { order = d.order; sets = d.sets ++ (set ∷ []) }) fresh refl sized (λ e. sized)
-steps room Open in-drawing d h fresh sized = opens d h fresh sized
-steps room (Rate part rating) in-drawing d h fresh sized = stays (at in-drawing d h) fresh sized
-steps room (Price part price) in-drawing d h fresh sized = stays (at in-drawing d h) fresh sized
-steps room (Withdraw part) in-drawing d h fresh sized = stays (at in-drawing d h) fresh sized
-steps room (PutBack part) in-drawing d h fresh sized = stays (at in-drawing d h) fresh sized
-steps room Figure in-drawing d h fresh sized = stays (at in-drawing d h) fresh sized
-steps room Tally in-drawing d h fresh sized = stays (at in-drawing d h) fresh sized
-steps room Signature in-drawing d h fresh sized = stays (at in-drawing d h) fresh sized
-steps room Cuts in-drawing d h fresh sized = stays (at in-drawing d h) fresh sized
+steps room (Start order) in_drawing d h fresh sized = stays (at in_drawing d h) fresh sized
+steps room (Add set) in_drawing d h fresh sized = drawn_on (at in_drawing d h) (set_refused d set) (record { order = d.order; sets = d.sets ++ (set ∷ []) }) fresh refl sized (λ e. sized)
+steps room Open in_drawing d h fresh sized = opens d h fresh sized
+steps room (Rate part rating) in_drawing d h fresh sized = stays (at in_drawing d h) fresh sized
+steps room (Price part price) in_drawing d h fresh sized = stays (at in_drawing d h) fresh sized
+steps room (Withdraw part) in_drawing d h fresh sized = stays (at in_drawing d h) fresh sized
+steps room (PutBack part) in_drawing d h fresh sized = stays (at in_drawing d h) fresh sized
+steps room Figure in_drawing d h fresh sized = stays (at in_drawing d h) fresh sized
+steps room Tally in_drawing d h fresh sized = stays (at in_drawing d h) fresh sized
+steps room Signature in_drawing d h fresh sized = stays (at in_drawing d h) fresh sized
+steps room Cuts in_drawing d h fresh sized = stays (at in_drawing d h) fresh sized
 steps room (Start order) opened d h fresh sized = stays (at opened d h) fresh sized
 steps room (Add set) opened d h fresh sized = stays (at opened d h) fresh sized
 steps room Open opened d h fresh sized = stays (at opened d h) fresh sized
 steps room (Rate part rating) opened d h fresh sized = calls_on d h (next d.order h (rate part rating)) _ refl sized
-steps room (Price part price) opened d h fresh sized = calls_on d h (next d.order h (set-price part price)) _ refl sized
+steps room (Price part price) opened d h fresh sized = calls_on d h (next d.order h (set_price part price)) _ refl sized
 steps room (Withdraw part) opened d h fresh sized = calls_on d h (next d.order h (withdraw part)) _ refl sized
 steps room (PutBack part) opened d h fresh sized = calls_on d h (next d.order h (put_back part)) _ refl sized
-steps room Figure opened d h fresh sized = calls_on d h (next d.order h ask-figure) _ refl sized
+steps room Figure opened d h fresh sized = calls_on d h (next d.order h ask_figure) _ refl sized
 steps room Tally opened d h fresh sized = stays (at opened d h) fresh sized
 steps room Signature opened d h fresh sized = stays (at opened d h) fresh sized
 steps room Cuts opened d h fresh sized = stays (at opened d h) fresh sized

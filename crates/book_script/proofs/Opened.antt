@@ -14,23 +14,23 @@ use Rattle.analysis.proofs.CountAgreement.{same_path_numbers, same_signature}
 use Rattle.sheet.specs.declared.refusal.Refusal.{Refusal as BookRefusal}
 use Rattle.sheet.specs.Sheets.{rated, priced, taken_out, put_back}
 use Rattle.book.specs.declared.answer.Answer.{Answer as BookAnswer}
-use Rattle.book.specs.declared.answer.Answer.TheVariants.{Done, Refused, Figure as figure-is, Importance as importance-is, Weighed as weighed-is}
+use Rattle.book.specs.declared.answer.Answer.TheVariants.{Done, Refused, Figure as figure_is, Importance as importance_is, Weighed as weighed_is}
 use Rattle.book.specs.declared.book.Book.{Book}
 use Rattle.book.specs.declared.figure.Figure.{Figure as FigureAnswer}
-use Rattle.book.specs.Answers.{ruled as told-by}
+use Rattle.book.specs.Answers.{ruled as told_by}
 use Rattle.book.specs.Books.{opened, entered, stands, book_figure}
 use Rattle.book.specs.Entries.{altered, repriced}
 use Rattle.book.specs.Following.{Saw, done_or}
-use Rattle.book.specs.History.{Deed, Rate as rate, SetPrice as set-price, Withdraw as withdraw, PutBack as put-back, verdict, next}
+use Rattle.book.specs.History.{Deed, Rate as rate, SetPrice as set_price, Withdraw as withdraw, PutBack as put_back_deed, verdict, next}
 use Rattle.book.proofs.Following.{station_same}
 use Rattle.book.proofs.Replaying.{sized, book_rated, book_priced, book_taken_out, book_put_back, book_figure_lem}
 use Rattle.book_script.specs.declared.command.Command.{Command}
 use Rattle.book_script.specs.declared.command.Command.TheVariants.{Rate, Price, Withdraw, PutBack, Figure, Tally, Signature, Cuts}
 use Rattle.book_script.specs.declared.fault.Fault.{Fault}
 use Rattle.book_script.specs.declared.fault.Fault.TheVariants.{Station}
-use Rattle.book_script.specs.declared.fault.StationRefusal.TheVariants.{Book as of-book}
+use Rattle.book_script.specs.declared.fault.StationRefusal.TheVariants.{Book as of_book}
 use Rattle.book_script.specs.declared.reply.Reply.{Reply}
-use Rattle.book_script.specs.declared.reply.Reply.TheVariants.{Figure as figure-reply}
+use Rattle.book_script.specs.declared.reply.Reply.TheVariants.{Figure as figure_reply}
 use Rattle.book_script.specs.declared.run.Run.{Run}
 use Rattle.book_script.specs.declared.stage.Stage.TheVariants.{Open}
 use Rattle.book_script.specs.Language.{Answer, Progress, Room, silent, figure, tally, signature, cuts, answered, called, ground, if_room, numbers_after, ruled, sets_after, station, step}
@@ -40,10 +40,10 @@ use Rattle.book_script.specs.Stages.{is_open}
 -- what a script says of a book's answer to a call that only does something
 abbrev spoken : BookAnswer ℕ → Result Answer Fault
 spoken Done = Ok silent
-spoken (figure-is f) = Ok silent
-spoken (importance-is units) = Ok silent
-spoken (weighed-is sum) = Ok silent
-spoken (Refused why) = Err (Station (of-book why))
+spoken (figure_is f) = Ok silent
+spoken (importance_is units) = Ok silent
+spoken (weighed_is sum) = Ok silent
+spoken (Refused why) = Err (Station (of_book why))
 
 spoken_done : (r : Result (Unit {0}) BookRefusal) (sets numbers : List ℕ) → said (silent_or r) sets numbers ≡ spoken (done_or r)
 spoken_done (Ok done) sets numbers = refl
@@ -81,7 +81,7 @@ module _ (run : Run) (at_open : run.stage ≡ Open) (p : Progress) (stood : Stan
       then_run = record { stage = run.stage; drawn = run.drawn; book = after }
 
       module _ (r : Result (Unit {0}) BookRefusal) (reply : Result Reply Fault) (told : reply ≡ silent_or r) where
-        noted_call : (made : Command) → command ≡ made → (deed : Deed) → ((room : Room) → step room made own ≡ called deed own) → sets ≡ sets_after made own sets → numbers ≡ numbers_after made own numbers → (◌≡◌ {A = BookAnswer ℕ} (done_or r) (told-by (verdict (ground own).order p.past deed))) × Saw (ground own) (next (ground own).order p.past deed) after → Executed command p sets numbers then_run reply sets numbers
+        noted_call : (made : Command) → command ≡ made → (deed : Deed) → ((room : Room) → step room made own ≡ called deed own) → sets ≡ sets_after made own sets → numbers ≡ numbers_after made own numbers → (◌≡◌ {A = BookAnswer ℕ} (done_or r) (told_by (verdict (ground own).order p.past deed))) × Saw (ground own) (next (ground own).order p.past deed) after → Executed command p sets numbers then_run reply sets numbers
         noted_call made e deed does keeps-sets keeps-numbers followed =
             subst (λ k. Executed k p sets numbers then_run reply sets numbers) (sym e) (subst (λ q. Executed made q sets numbers then_run reply sets numbers) is_own (record {
               answer = ap (λ x. said x sets numbers) told ∙ spoken_done r sets numbers ∙ ap spoken followed.0 ∙ by_verdict (verdict (ground own).order p.past deed) ∙ ap (λ x. x.0) (sym (does (room_of sets numbers)));
@@ -90,7 +90,7 @@ module _ (run : Run) (at_open : run.stage ≡ Open) (p : Progress) (stood : Stan
               numbers = keeps-numbers;
             }))
           where
-            by_verdict : (why : Option BookRefusal) → spoken (told-by why) ≡ ruled why
+            by_verdict : (why : Option BookRefusal) → spoken (told_by why) ≡ ruled why
             by_verdict None = refl
             by_verdict (Some why) = refl
 
@@ -98,18 +98,18 @@ module _ (run : Run) (at_open : run.stage ≡ Open) (p : Progress) (stood : Stan
         rate_executed part new e is = noted_call (Rate part new) e (rate part new) (λ _. refl) refl refl (book_rated run.book saw after r (done_or r) same refl part new is)
 
         pub price_executed : (part new : ℕ) → command ≡ Price part new → (r, entered after) ≡ repriced (priced part new (entered run.book).page) (entered run.book) → Executed command p sets numbers then_run reply sets numbers
-        price_executed part new e is = noted_call (Price part new) e (set-price part new) (λ _. refl) refl refl (book_priced run.book saw after r (done_or r) same refl part new is)
+        price_executed part new e is = noted_call (Price part new) e (set_price part new) (λ _. refl) refl refl (book_priced run.book saw after r (done_or r) same refl part new is)
 
         pub withdraw_executed : (part : ℕ) → command ≡ Withdraw part → (r, entered after) ≡ altered (taken_out part (entered run.book).page) (entered run.book) → Executed command p sets numbers then_run reply sets numbers
         withdraw_executed part e is = noted_call (Withdraw part) e (withdraw part) (λ _. refl) refl refl (book_taken_out run.book saw after r (done_or r) same refl part is)
 
         pub put_back_executed : (part : ℕ) → command ≡ PutBack part → (r, entered after) ≡ altered (put_back part (entered run.book).page) (entered run.book) → Executed command p sets numbers then_run reply sets numbers
-        put_back_executed part e is = noted_call (PutBack part) e (put-back part) (λ _. refl) refl refl (book_put_back run.book saw after r (done_or r) same refl part is)
+        put_back_executed part e is = noted_call (PutBack part) e (put_back_deed part) (λ _. refl) refl refl (book_put_back run.book saw after r (done_or r) same refl part is)
 
-      pub figure_executed : command ≡ Figure → (f : FigureAnswer) → (f, entered after) ≡ book_figure (opened run.book) (entered run.book) → Executed command p sets numbers then_run (Ok (figure-reply f)) sets numbers
+      pub figure_executed : command ≡ Figure → (f : FigureAnswer) → (f, entered after) ≡ book_figure (opened run.book) (entered run.book) → Executed command p sets numbers then_run (Ok (figure_reply f)) sets numbers
       figure_executed e f is =
           let followed = book_figure_lem run.book saw after f same is in
-          subst (λ k. Executed k p sets numbers then_run (Ok (figure-reply f)) sets numbers) (sym e) (subst (λ q. Executed Figure q sets numbers then_run (Ok (figure-reply f)) sets numbers) is_own (record {
+          subst (λ k. Executed k p sets numbers then_run (Ok (figure_reply f)) sets numbers) (sym e) (subst (λ q. Executed Figure q sets numbers then_run (Ok (figure_reply f)) sets numbers) is_own (record {
             answer = ap (λ g. Ok (figure g)) followed.0;
             stands = record { stage = at_open; drawn = refl; saw = λ _. followed.1 };
             sets = refl;

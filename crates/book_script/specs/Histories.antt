@@ -2,7 +2,7 @@
 use Rattle.std.specs.Prelude.{◌≡◌, cond, List, [], ◌∷◌, Some, None, Option}
 use Rattle.sheet.specs.Reliability.{Close}
 use Rattle.book.specs.declared.call.Call.{Call}
-use Rattle.book.specs.declared.call.Call.TheVariants.{Rate as rate, Price as price, Withdraw as withdraw, PutBack as put_back, Figure as ask-figure}
+use Rattle.book.specs.declared.call.Call.TheVariants.{Rate as rate, Price as price, Withdraw as withdraw, PutBack as put_back, Figure as ask_figure}
 use Rattle.book.specs.Answers.{figure_then, past_after}
 use Rattle.book.specs.Standing.{ratings}
 use Rattle.book.specs.Told.{Told}
@@ -21,7 +21,7 @@ call_of (Rate part rating) = Some (rate part rating)
 call_of (Price part new) = Some (price part new)
 call_of (Withdraw part) = Some (withdraw part)
 call_of (PutBack part) = Some (put_back part)
-call_of Figure = Some ask-figure
+call_of Figure = Some ask_figure
 call_of Tally = None
 call_of Signature = None
 call_of Cuts = None

@@ -13,15 +13,15 @@ use Rattle.analysis.specs.Places.{laid, laid_whole}
 use Rattle.sheet.specs.declared.refusal.Refusal.{Refusal as BookRefusal}
 use Rattle.book.specs.declared.figure.Figure.{Figure as FigureAnswer}
 use Rattle.book.specs.Answers.{figure_then}
-use Rattle.book.specs.History.{Deed, Rate as rate, SetPrice as set-price, Withdraw as withdraw, PutBack as put_back, AskFigure as ask-figure, verdict, next}
+use Rattle.book.specs.History.{Deed, Rate as rate, SetPrice as set_price, Withdraw as withdraw, PutBack as put_back, AskFigure as ask_figure, verdict, next}
 use Rattle.book.specs.Standing.{standing}
 use Rattle.book_script.specs.declared.command.Command.{Command}
 use Rattle.book_script.specs.declared.command.Command.TheVariants.{Start, Add, Open, Rate, Price, Withdraw, PutBack, Figure, Tally, Signature, Cuts}
 use Rattle.book_script.specs.declared.fault.Fault.{Fault}
-use Rattle.book_script.specs.declared.fault.Fault.TheVariants.{Stage as wrong-stage, Station}
+use Rattle.book_script.specs.declared.fault.Fault.TheVariants.{Stage as wrong_stage, Station}
 use Rattle.book_script.specs.declared.fault.StationRefusal.TheVariants.{Structure, Analysis, Book}
 use Rattle.book_script.specs.declared.stage.Stage.{Stage}
-use Rattle.book_script.specs.declared.stage.Stage.TheVariants.{Blank, Drawing as in-drawing, Open as opened}
+use Rattle.book_script.specs.declared.stage.Stage.TheVariants.{Blank, Drawing as in_drawing, Open as opened}
 
 -- how far a script has come, what is drawn, and the accepted calls on its book, the newest first
 pub record Progress : Type 0 where
@@ -47,8 +47,8 @@ pub data Answer : Type 0 where
 -- the one stage in which a command is taken
 abbrev pub taken_in : Command → Stage
 taken_in (Start order) = Blank
-taken_in (Add set) = in-drawing
-taken_in Open = in-drawing
+taken_in (Add set) = in_drawing
+taken_in Open = in_drawing
 taken_in (Rate part rating) = opened
 taken_in (Price part price) = opened
 taken_in (Withdraw part) = opened
@@ -60,18 +60,18 @@ taken_in Cuts = opened
 
 abbrev pub same : Stage → Stage → Bool
 same Blank Blank = true
-same Blank in-drawing = false
+same Blank in_drawing = false
 same Blank opened = false
-same in-drawing Blank = false
-same in-drawing in-drawing = true
-same in-drawing opened = false
+same in_drawing Blank = false
+same in_drawing in_drawing = true
+same in_drawing opened = false
 same opened Blank = false
-same opened in-drawing = false
+same opened in_drawing = false
 same opened opened = true
 
 -- after a call on the drawing: in drawing, or as before with the call's refusal
 abbrev pub drawing_on : Progress → Result (Unit {0}) Refusal → Drawing → Result Answer Fault × Progress
-drawing_on p (Ok done) new = (Ok silent, record { stage = in-drawing; drawn = new; past = p.past })
+drawing_on p (Ok done) new = (Ok silent, record { stage = in_drawing; drawn = new; past = p.past })
 drawing_on p (Err why) new = (Err (Station (Structure why)), p)
 
 -- what the book was opened on
@@ -111,17 +111,17 @@ carried room (Start order) p = drawing_on p (started order p.drawn).0 (started o
 carried room (Add set) p = drawing_on p (added set p.drawn).0 (added set p.drawn).1
 carried room Open p = (Ok silent, record { stage = opened; drawn = p.drawn; past = [] })
 carried room (Rate part rating) p = called (rate part rating) p
-carried room (Price part price) p = called (set-price part price) p
+carried room (Price part price) p = called (set_price part price) p
 carried room (Withdraw part) p = called (withdraw part) p
 carried room (PutBack part) p = called (put_back part) p
-carried room Figure p = (Ok (figure (figure_then (ground p) p.past)), noting ask-figure p)
+carried room Figure p = (Ok (figure (figure_then (ground p) p.past)), noting ask_figure p)
 carried room Tally p = (answered tally (if_room room.numbers (path_numbers (station p))), p)
 carried room Signature p = (answered signature (if_room room.numbers (signature_of (station p))), p)
 carried room Cuts p = (answered cuts (if_room room.sets (cuts_of p)), p)
 
 -- the same of any command
 abbrev pub step : Room → Command → Progress → Result Answer Fault × Progress
-step room command p = cond (same p.stage (taken_in command)) (carried room command p) (Err wrong-stage, p)
+step room command p = cond (same p.stage (taken_in command)) (carried room command p) (Err wrong_stage, p)
 
 -- what the places lent for sets then hold: the sets of a list that was taken, else what they held
 abbrev pub sets_after : Command → Progress → List ℕ → List ℕ

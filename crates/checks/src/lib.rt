@@ -1,3 +1,5 @@
+#![tactic(auto)]
+
 // Examples that are run: of reading and printing, of whole scripts, and of structures and their minimal sets.
 #[cfg(test)]
 mod reading;

@@ -13,10 +13,10 @@ use Rattle.analysis.specs.Places.{laid, laid_whole}
 use Rattle.script.specs.declared.command.Command.{Command}
 use Rattle.script.specs.declared.command.Command.TheVariants.{Start, Add, Open, Tally, Signature, Cuts}
 use Rattle.script.specs.declared.fault.Fault.{Fault}
-use Rattle.script.specs.declared.fault.Fault.TheVariants.{Stage as wrong-stage, Station}
+use Rattle.script.specs.declared.fault.Fault.TheVariants.{Stage as wrong_stage, Station}
 use Rattle.script.specs.declared.fault.StationRefusal.TheVariants.{Structure, Analysis}
 use Rattle.script.specs.declared.stage.Stage.{Stage}
-use Rattle.script.specs.declared.stage.Stage.TheVariants.{Blank, Drawing as in-drawing, Open as opened}
+use Rattle.script.specs.declared.stage.Stage.TheVariants.{Blank, Drawing as in_drawing, Open as opened}
 
 -- how far a script has come, and what is drawn
 pub record Progress : Type 0 where
@@ -40,26 +40,26 @@ pub data Answer : Type 0 where
 -- the one stage in which a command is taken
 abbrev pub taken_in : Command → Stage
 taken_in (Start order) = Blank
-taken_in (Add set) = in-drawing
-taken_in Open = in-drawing
+taken_in (Add set) = in_drawing
+taken_in Open = in_drawing
 taken_in Tally = opened
 taken_in Signature = opened
 taken_in Cuts = opened
 
 abbrev pub same : Stage → Stage → Bool
 same Blank Blank = true
-same Blank in-drawing = false
+same Blank in_drawing = false
 same Blank opened = false
-same in-drawing Blank = false
-same in-drawing in-drawing = true
-same in-drawing opened = false
+same in_drawing Blank = false
+same in_drawing in_drawing = true
+same in_drawing opened = false
 same opened Blank = false
-same opened in-drawing = false
+same opened in_drawing = false
 same opened opened = true
 
 -- after a call on the drawing: in drawing, or as before with the call's refusal
 abbrev pub drawing_on : Progress → Result (Unit {0}) Refusal → Drawing → Result Answer Fault × Progress
-drawing_on p (Ok done) new = (Ok silent, record { stage = in-drawing; drawn = new })
+drawing_on p (Ok done) new = (Ok silent, record { stage = in_drawing; drawn = new })
 drawing_on p (Err why) new = (Err (Station (Structure why)), p)
 
 -- the station that was opened
@@ -88,7 +88,7 @@ carried room Cuts p = (answered cuts (if_room room.sets (cuts_of p)), p)
 
 -- the same of any command
 abbrev pub step : Room → Command → Progress → Result Answer Fault × Progress
-step room command p = cond (same p.stage (taken_in command)) (carried room command p) (Err wrong-stage, p)
+step room command p = cond (same p.stage (taken_in command)) (carried room command p) (Err wrong_stage, p)
 
 -- what the places lent for sets then hold: the sets of a list that was taken, else what they held
 abbrev pub sets_after : Command → Progress → List ℕ → List ℕ
