@@ -98,7 +98,7 @@ def ghost_only(text, turn):
 def with_aliases(text, turn):
     """The table for one file: what it imports under another name has no name elsewhere."""
     here = dict(turn)
-    for name in re.findall(r" as ([a-z]\w*(?:-\w+)+)[,}]", text):
+    for name in re.findall(r" as ([a-z]\w*(?:-\w+)+|[a-z]+[A-Z]\w*)[,}]", text):
         if name not in here:
             if re.search(rf"(?<![\w-]){snake(name)}(?![\w-])", text):
                 print("kept, its spelling is another's in that file:", name)

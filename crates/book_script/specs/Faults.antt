@@ -1,8 +1,8 @@
 -- The numbers that faults are known by, by their layer. Assumes nothing.
 use Rattle.std.specs.Prelude.{ℕ}
-use Rattle.analysis.specs.Refusals.{number_of as analysisNumber}
-use Rattle.sheet.specs.Refusals.{number_of as bookNumber}
-use Rattle.structure.specs.Refusals.{number_of as structureNumber}
+use Rattle.analysis.specs.Refusals.{number_of as analysis_number}
+use Rattle.sheet.specs.Refusals.{number_of as book_number}
+use Rattle.structure.specs.Refusals.{number_of as structure_number}
 use Rattle.book_script.specs.declared.fault.Malformed.{Malformed}
 use Rattle.book_script.specs.declared.fault.Malformed.TheVariants.{Unknown, Short, Long}
 use Rattle.book_script.specs.declared.fault.StationRefusal.{StationRefusal}
@@ -16,9 +16,9 @@ malformed_number Short = 21  -- the input ends within a command
 malformed_number Long = 23  -- the input has more than 4,096 bytes
 
 abbrev pub refusal_number : StationRefusal → ℕ
-refusal_number (Structure why) = structureNumber why
-refusal_number (Analysis why) = analysisNumber why
-refusal_number (Book why) = bookNumber why
+refusal_number (Structure why) = structure_number why
+refusal_number (Analysis why) = analysis_number why
+refusal_number (Book why) = book_number why
 
 abbrev pub number_of : Fault → ℕ
 number_of (Reading why) = malformed_number why

@@ -50,9 +50,9 @@ no_cut_cheapest prices = ap (λ (x : ℕ). Some x) (none_less _)
 
 pub known_stations : KnownStations
 known_stations = record {
-  bridge = record { path_numbers_lem = path_numbers_lem; signature = signature; minimal_cuts = minimal_cuts; swings = swings; figure = figure; cheapest = cheapest };
-  two_of_two_lem = two_of_two_lem;
-  three_of_three_lem = three_of_three_lem;
+  bridge = record { tally = path_numbers_lem; signature = signature; minimal_cuts = minimal_cuts; swings = swings; figure = figure; cheapest = cheapest };
+  both_of_two = two_of_two_lem;
+  all_of_three = three_of_three_lem;
   single = refl;
   no_path_signature = refl;
   no_path_cheapest = λ prices. refl;

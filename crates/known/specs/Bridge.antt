@@ -11,7 +11,7 @@ use Rattle.known.specs.Stations.{bridge}
 
 pub record BridgeKnown : Type 0 where
   -- of the states with two parts working two work, with three parts eight, with four five, with all one
-  pub path_numbers_lem : path_numbers bridge ≡ 0 ∷ 0 ∷ 2 ∷ 8 ∷ 5 ∷ 1 ∷ []
+  pub tally : path_numbers bridge ≡ 0 ∷ 0 ∷ 2 ∷ 8 ∷ 5 ∷ 1 ∷ []
   -- of the 120 orders in which the parts can fail, by the failure with which the station fails
   pub signature : signature_of bridge ≡ 0 ∷ 0 ∷ 24 ∷ 72 ∷ 24 ∷ 0 ∷ 0 ∷ []
   -- {0, 1}, {1, 2, 3}, {0, 2, 4} and {3, 4}

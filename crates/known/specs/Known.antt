@@ -9,8 +9,8 @@ use Rattle.known.specs.Stations.{two_of_two, three_of_three, single, no_path, no
 pub record KnownStations : Type 0 where
   pub bridge : BridgeKnown
   -- all rated 1 in 65,536: two parts have the least figure above nothing, three are rounded to nothing
-  pub two_of_two_lem : figure_of floor two_of_two (replicate 2 1) ≡ 1
-  pub three_of_three_lem : figure_of floor three_of_three (replicate 3 1) ≡ 0
+  pub both_of_two : figure_of floor two_of_two (replicate 2 1) ≡ 1
+  pub all_of_three : figure_of floor three_of_three (replicate 3 1) ≡ 0
   -- a part that never fails
   pub single : figure_of floor single (65536 ∷ []) ≡ 4294967296
   -- in both orders it never worked

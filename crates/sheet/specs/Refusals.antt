@@ -1,7 +1,7 @@
 -- The numbers that refusals are known by. Assumes nothing.
 use Rattle.std.specs.Prelude.{ℕ}
-use Rattle.analysis.specs.Refusals.{number_of as analysisNumber}
-use Rattle.structure.specs.Refusals.{number_of as structureNumber}
+use Rattle.analysis.specs.Refusals.{number_of as analysis_number}
+use Rattle.structure.specs.Refusals.{number_of as structure_number}
 use Rattle.sheet.specs.declared.refusal.Refusal.{Refusal}
 use Rattle.sheet.specs.declared.refusal.Refusal.TheVariants.{Part, Rating, Price, RatedWithdrawn, Withdrawn, InService, Orders, Structure, Analysis}
 
@@ -13,5 +13,5 @@ number_of RatedWithdrawn = 13  -- a withdrawn part is not rated
 number_of Withdrawn = 14  -- the part is withdrawn already
 number_of InService = 15  -- the part is not withdrawn
 number_of Orders = 17  -- sheet and structure differ in order
-number_of (Structure why) = structureNumber why
-number_of (Analysis why) = analysisNumber why
+number_of (Structure why) = structure_number why
+number_of (Analysis why) = analysis_number why

@@ -1,6 +1,6 @@
 -- What a sheet holds, and what each call makes of it. Assumes nothing.
 use Rattle.std.specs.Prelude.{◌≡◌, ℕ, zero, suc, ◌+◌, ◌^◌, Bool, true, false, cond, ◌&&◌, List, set, replicate, Some, None, Option, Result, nat_lt, slice_index_or, slice_set}
-use Rattle.structure.specs.Drawings.{order_refused as structureRefused}
+use Rattle.structure.specs.Drawings.{order_refused as structure_refused}
 use Rattle.structure.specs.States.{digit}
 use Rattle.sheet.specs.declared.refusal.Refusal.{Refusal}
 use Rattle.sheet.specs.declared.refusal.Refusal.TheVariants.{Part, Structure}
@@ -48,7 +48,7 @@ HasFailed p set = (part : ℕ) → digit set part ≡ cond (nat_lt part p.order 
 -- ---- why each call is refused, first fit first
 
 abbrev pub start_refused : ℕ → Option Refusal
-start_refused n = elim (structureRefused n) [ None ↦ None | Some why ↦ Some (Structure why) ]
+start_refused n = elim (structure_refused n) [ None ↦ None | Some why ↦ Some (Structure why) ]
 
 -- no such part, or what the part's row refuses
 abbrev pub part_refused : (Row → Option Refusal) → ℕ → Page → Option Refusal

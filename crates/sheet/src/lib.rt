@@ -3,6 +3,7 @@
 
 pub mod cheapest;
 mod figure;
+pub mod figure_of_rows;
 pub mod importance;
 pub mod refusal;
 pub mod row;

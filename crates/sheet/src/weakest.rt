@@ -4,9 +4,9 @@ ghost use Rattle.sheet.specs.Losses.{lower_of};
 ghost use Rattle.sheet.specs.Sheets.{page};
 ghost use Rattle.sheet.specs.Weakest.{figure_without_or_refusal, weakest_or_refusal, NamesUnlessRefused};
 
+use crate::figure_of_rows::figure_at;
 use crate::refusal::Refusal;
 use crate::sheet::Sheet;
-use crate::sheet_figure::figure_at;
 use crate::trial::Trial;
 use structure::structure::Structure;
 

@@ -8,9 +8,9 @@ ghost use Rattle.book.specs.Entries.{blank, altered, repriced};
 use super::Book;
 use crate::entries::Entries;
 use crate::figure::Figure;
+use sheet::figure_of_rows::figure_at;
 use sheet::refusal::Refusal;
 use sheet::sheet::Sheet;
-use sheet::sheet_figure::figure_at;
 use structure::structure::Structure;
 use structure::table::Table;
 

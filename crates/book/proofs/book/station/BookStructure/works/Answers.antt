@@ -1,4 +1,4 @@
-use Rattle.std.proofs.Common.{◌%◌, ◌^◌, ap, ◌∙◌}
+use Rattle.std.proofs.Common.{◌≡◌, ◌-◌, ◌%◌, ◌^◌, bit_and, ap, ◌∙◌, rules}
 use lib.Bits.{and_le_l}
 use Rattle.structure.specs.States.{cleared}
 use Rattle.book.specs.Books.{opened}
@@ -13,6 +13,7 @@ unfolding cleared
 returns c =
     let book = c.args.self.now in
     let n = book.table.order in
-    c.works.ensures
+    let asked : c.works.result ≡ (opened book).works ((c.args.state - bit_and c.args.state book.entries.failed) % 2 ^ n) = search rules in
+    asked
     ∙ ap (opened book).works (cleared_mod n book.entries.failed c.args.state)
     ∙ ap (λ set. (opened book).works (cleared set (c.args.state % 2 ^ n))) book.standing
