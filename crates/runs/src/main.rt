@@ -1,4 +1,4 @@
-// Runs stored scripts one after another, by the call that the program `station` makes, and prints the lines of each under its name.
+// Runs stored scripts one after another, by the call that the program `book_station` makes, and prints the lines of each under its name.
 #![tactic(auto)]
 
 ghost use Rattle.std.specs.Prelude.{◌≤◌, length, IfOk};
