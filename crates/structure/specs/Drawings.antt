@@ -10,7 +10,7 @@ pub record Drawing : Type 0 where
   pub sets : List ℕ
 
 abbrev pub drawing : SetList → Drawing
-drawing l = record { order = l.order; sets = take l.count l.sets }
+drawing l = record { order = l.order.parts; sets = take l.count l.sets }
 
 -- a call that is refused changes nothing
 abbrev pub unless : {A : Type 0} → Option Refusal → A → A → Result (Unit {0}) Refusal × A

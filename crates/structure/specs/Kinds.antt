@@ -1,18 +1,11 @@
 -- The states in which each kind of structure works. Assumes nothing.
-use Rattle.std.specs.Prelude.{ℕ, Bool, true, false, cond, not, ◌&&◌, ◌||◌, List, [], ◌∷◌, Some, None, Option, ◌==◌, bit_and, nat_le}
+use Rattle.std.specs.Prelude.{ℕ, Bool, cond, not, ◌&&◌, List, Some, None, Option, ◌==◌, bit_and, nat_le}
+use Rattle.std.specs.List.{list_any, list_all}
 use Rattle.structure.specs.declared.refusal.Refusal.{Refusal}
 use Rattle.structure.specs.declared.refusal.Refusal.TheVariants.{Order, Threshold}
 use Rattle.structure.specs.Drawings.{Drawing}
 use Rattle.structure.specs.Meanings.{Meaning}
 use Rattle.structure.specs.States.{size}
-
-abbrev pub any : (ℕ → Bool) → List ℕ → Bool
-any test [] = false
-any test (x ∷ xs) = test x || any test xs
-
-abbrev pub all : (ℕ → Bool) → List ℕ → Bool
-all test [] = true
-all test (x ∷ xs) = test x && all test xs
 
 -- every part of the set works in the state s: those of its parts that work are all of it
 abbrev pub covers : ℕ → ℕ → Bool
@@ -22,13 +15,25 @@ covers s set = (bit_and s set) == set
 abbrev pub meets : ℕ → ℕ → Bool
 meets s set = not ((bit_and s set) == 0)
 
+-- a drawing with a way to tell from its sets whether it works in a state
+abbrev pub listed : (ℕ → List ℕ → Bool) → Drawing → Meaning
+listed holds d = record { order = d.order; works = λ s. holds s d.sets }
+
+-- all parts of some set work in the state s
+abbrev pub covered : ℕ → List ℕ → Bool
+covered s sets = list_any (covers s) sets
+
+-- each set has a part that works in the state s
+abbrev pub met : ℕ → List ℕ → Bool
+met s sets = list_all (meets s) sets
+
 -- a path list works where all parts of some listed set work
 abbrev pub path_list : Drawing → Meaning
-path_list d = record { order = d.order; works = λ s. any (covers s) d.sets }
+path_list = listed covered
 
 -- a cut list works where each listed set has a working part
 abbrev pub cut_list : Drawing → Meaning
-cut_list d = record { order = d.order; works = λ s. all (meets s) d.sets }
+cut_list = listed met
 
 -- why no k-out-of-n structure is made, first fit first
 abbrev pub threshold_refused : ℕ → ℕ → Option Refusal

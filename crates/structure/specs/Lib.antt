@@ -2,6 +2,7 @@ pub mod Refusals
 pub mod States
 pub mod Meanings
 pub mod Drawings
+pub mod Orders
 pub mod Kinds
 pub mod Layers
 pub mod Tables

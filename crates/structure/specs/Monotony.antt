@@ -1,41 +1,24 @@
 -- Why path lists, cut lists and k-out-of-n structures are monotone, and how a walk along a list decides them. Assumes nothing.
-use Rattle.std.specs.Prelude.{◌≡◌, ℕ, ◌+◌, ◌<◌, ◌≤◌, Bool, true, false, ◌&&◌, ◌||◌, List, [], ◌∷◌, length, drop, ◌==◌, bit_and, slice_index}
-use Rattle.std.proofs.Common.{sym, ap, ◌∙◌, ⊎_elim, arith}
-use Rattle.std.proofs.lemmas.List.{drop_more}
+use Rattle.std.specs.Prelude.{◌≡◌, ℕ, ◌≤◌, Bool, true, List, [], ◌∷◌, ◌==◌, bit_and}
+use Rattle.std.specs.List.{list_any, list_all}
+use Rattle.std.proofs.Common.{⊎_elim, arith}
 use Rattle.std.proofs.lemmas.Bool.{and_parts, and_from, or_cases, or_left, or_right, not-true, not_from_false, eqb-true, eqb-false, eq-eqb, ne_eqb, leb-true, le-leb}
 use Rattle.structure.specs.Drawings.{Drawing}
-use Rattle.structure.specs.Kinds.{any, all, covers, meets, path_list, cut_list, k_out_of_n}
+use Rattle.structure.specs.Kinds.{covers, meets, path_list, cut_list, k_out_of_n}
 use Rattle.structure.specs.Meanings.{Monotone}
 use Rattle.structure.specs.States.{Within}
 use Rattle.structure.specs.Digits.{digit_and, and_within, within_and, within_trans, within_le, size_within}
 
 module _ (f g : ℕ → Bool) (implies : (x : ℕ) → f x ≡ true → g x ≡ true) where
-  pub any_implies : (xs : List ℕ) → any f xs ≡ true → any g xs ≡ true
+  pub any_implies : (xs : List ℕ) → list_any f xs ≡ true → list_any g xs ≡ true
   any_implies [] h = h
   any_implies (x ∷ xs) h =
-      ⊎_elim (λ e. or_left (g x) (any g xs) (implies x e)) (λ e. or_right (g x) (any g xs) (any_implies xs e)) (or_cases (f x) (any f xs) h)
+      ⊎_elim (λ e. or_left (g x) (list_any g xs) (implies x e)) (λ e. or_right (g x) (list_any g xs) (any_implies xs e)) (or_cases (f x) (list_any f xs) h)
 
-  pub all_implies : (xs : List ℕ) → all f xs ≡ true → all g xs ≡ true
+  pub all_implies : (xs : List ℕ) → list_all f xs ≡ true → list_all g xs ≡ true
   all_implies [] h = h
   all_implies (x ∷ xs) h =
-      let parts = and_parts (f x) (all f xs) h in and_from (g x) (all g xs) (implies x parts.0) (all_implies xs parts.1)
-
--- what stands from place i on is the element there and what stands after it
-module _ (test : ℕ → Bool) (xs : List ℕ) (i : ℕ) (within : i < length xs) where
-  rest : drop i xs ≡ slice_index xs i ∷ drop (i + 1) xs
-  rest = drop_more xs i 0 within
-
-  pub any_passes : test (slice_index xs i) ≡ false → any test (drop (i + 1) xs) ≡ any test (drop i xs)
-  any_passes e = sym (ap (any test) rest ∙ ap (λ b. b || any test (drop (i + 1) xs)) e)
-
-  pub any_finds : test (slice_index xs i) ≡ true → any test (drop i xs) ≡ true
-  any_finds e = ap (any test) rest ∙ or_left (test (slice_index xs i)) _ e
-
-  pub all_passes : test (slice_index xs i) ≡ true → all test (drop (i + 1) xs) ≡ all test (drop i xs)
-  all_passes e = sym (ap (all test) rest ∙ ap (λ b. b && all test (drop (i + 1) xs)) e)
-
-  pub all_fails : test (slice_index xs i) ≡ false → all test (drop i xs) ≡ false
-  all_fails e = ap (all test) rest ∙ ap (λ b. b && all test (drop (i + 1) xs)) e
+      let parts = and_parts (f x) (list_all f xs) h in and_from (g x) (list_all g xs) (implies x parts.0) (all_implies xs parts.1)
 
 pub covers_more : (x y p : ℕ) → Within x y → covers x p ≡ true → covers y p ≡ true
 covers_more x y p w h =

@@ -5,7 +5,7 @@ ghost use Rattle.structure.specs.Meanings.{Same};
 ghost use Rattle.structure.specs.LayersLemmas.{dual_monotone};
 ghost use Rattle.std.proofs.Common.{rules};
 
-use crate::state::reverse;
+use crate::order::Order;
 use crate::structure::Structure;
 
 #[derive(Clone, Copy)]
@@ -46,6 +46,6 @@ impl<S: Structure> Structure for Dual<S> {
     }
 
     fn works(&self, state: u32) -> bool {
-        !self.below.works(reverse(state, self.below.order()))
+        !self.below.works(Order::of(&self.below).reverse(state))
     }
 }

@@ -2,9 +2,10 @@
 ghost use Rattle.std.specs.Prelude.{◌≡◌};
 ghost use Rattle.structure.specs.Layers.{hold};
 ghost use Rattle.structure.specs.LayersLemmas.{hold_monotone};
+ghost use Rattle.structure.specs.States.{cleared};
 ghost use Rattle.std.proofs.Common.{rules};
 
-use crate::state::{clear, known};
+use crate::order::Order;
 use crate::structure::Structure;
 
 #[derive(Clone, Copy)]
@@ -34,7 +35,14 @@ impl<S: Structure> Structure for Hold<S> {
     }
 
     fn works(&self, state: u32) -> bool {
-        self.below
-            .works(clear(known(state, self.below.order()), self.failed))
+        let state = Order::of(&self.below).known(state);
+        self.below.works(clear(state, self.failed))
     }
+}
+
+// The parts of `state` that are not in `set`.
+fn clear(state: u32, set: u16) -> u32
+    ensures { result ≡ cleared set state }
+{
+    state & !u32::from(set)
 }

@@ -2,28 +2,24 @@
 ghost use Rattle.std.specs.Prelude.{◌≡◌, ◌≤◌, Some, None, Ok, Err};
 ghost use Rattle.structure.specs.Kinds.{k_out_of_n, threshold_refused};
 ghost use Rattle.structure.specs.Monotony.{k_out_of_n_monotone};
-ghost use Rattle.std.proofs.Common.{rules, arith};
+ghost use Rattle.std.proofs.Common.{rules};
 
+use crate::order::Order;
 use crate::refusal::Refusal;
-use crate::state::known;
-use crate::structure::{MAX_ORDER, Structure};
+use crate::structure::Structure;
 
 #[derive(Clone, Copy)]
 pub struct KOutOfN {
     k: usize,
-    order: usize,
-    ghost low: { 1 ≤ order },
-    ghost high: { order ≤ 16 },
+    order: Order,
 }
 
 impl KOutOfN {
     pub fn new(order: usize, k: usize) -> Result<Self, Refusal>
-        ensures { elim result [ Ok s ↦ (threshold_refused order k ≡ None) × (s.k ≡ k) × (s.order ≡ order) | Err why ↦ threshold_refused order k ≡ Some why ] }
+        ensures { elim result [ Ok s ↦ (threshold_refused order k ≡ None) × (s.k ≡ k) × (s.order.parts ≡ order) | Err why ↦ threshold_refused order k ≡ Some why ] }
     {
-        if order < 1 || order > MAX_ORDER {
-            return Err(Refusal::Order);
-        }
-        if k < 1 || k > order {
+        let order = Order::try_from(order)?;
+        if !(1..=order.parts()).contains(&k) {
             return Err(Refusal::Threshold);
         }
         Ok(KOutOfN { k, order })
@@ -31,17 +27,17 @@ impl KOutOfN {
 }
 
 impl Structure for KOutOfN {
-    ghost meaning = { λ s. k_out_of_n s.k s.order };
+    ghost meaning = { λ s. k_out_of_n s.k s.order.parts };
 
-    ghost sized = { first_of (Prim.search rules, Prim.grind (arith, Self.row.coded.inj)) };
+    ghost sized = { Prim.search rules };
 
-    ghost monotone = { λ s. k_out_of_n_monotone s.k s.order };
+    ghost monotone = { λ s. k_out_of_n_monotone s.k s.order.parts };
 
     fn order(&self) -> usize {
-        self.order
+        self.order.parts()
     }
 
     fn works(&self, state: u32) -> bool {
-        known(state, self.order).count_ones() as usize >= self.k
+        self.order.known(state).count_ones() as usize >= self.k
     }
 }

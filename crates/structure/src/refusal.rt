@@ -12,6 +12,7 @@ pub enum Refusal {
 }
 
 impl Refusal {
+    // The number that formats know it by; `u8::from`, here and in the layers above, would not say that.
     pub fn number(self) -> u8
         ensures { result ≡ number_of self }
     {

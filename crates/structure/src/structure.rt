@@ -18,3 +18,19 @@ pub trait Structure {
 
     ghost monotone: { (s : Self) → Monotone (meaning s) };
 }
+
+impl<S: Structure> Structure for &S {
+    ghost meaning = { λ s. S.Structure.meaning s.now };
+
+    ghost sized = { λ s. S.Structure.sized s.now };
+
+    ghost monotone = { λ s. S.Structure.monotone s.now };
+
+    fn order(&self) -> usize {
+        (*self).order()
+    }
+
+    fn works(&self, state: u32) -> bool {
+        (*self).works(state)
+    }
+}

@@ -1,7 +1,9 @@
 // Every yes and no of a structure of up to 16 parts, packed 64 to a word; no table that can exist is not monotone.
-ghost use Rattle.std.specs.Prelude.{◌≡◌, ℕ, ◌≤◌, true};
+ghost use Rattle.std.specs.Prelude.{◌≡◌, ℕ, true};
 ghost use Rattle.structure.specs.Meanings.{Raised};
 ghost use Rattle.structure.specs.Tables.{entry};
+
+use crate::order::Order;
 
 pub mod calls;
 
@@ -9,9 +11,7 @@ const WORDS: usize = 1024;
 
 #[derive(Drop)]
 pub struct Table {
-    order: usize,
+    order: Order,
     words: [u64; WORDS],
-    ghost low: { 1 ≤ order },
-    ghost high: { order ≤ 16 },
-    ghost monotone: { (x y : ℕ) → Raised order x y × (entry words x ≡ true) → entry words y ≡ true },
+    ghost monotone: { (x y : ℕ) → Raised order.parts x y × (entry words x ≡ true) → entry words y ≡ true },
 }

@@ -1,17 +1,17 @@
 // Starting a list of sets and adding to it, and reading it.
-ghost use Rattle.std.specs.Prelude.{◌≡◌, [], length};
+ghost use Rattle.std.specs.Prelude.{◌≡◌, ◌%◌, ◌^◌};
 ghost use Rattle.structure.specs.Drawings.{drawing, blank, started, added};
 
 use super::{CAPACITY, SetList};
+use crate::order::Order;
 use crate::refusal::Refusal;
-use crate::structure::MAX_ORDER;
 
 impl SetList {
     pub fn new() -> Self
         ensures { drawing result ≡ blank }
     {
         SetList {
-            order: 1,
+            order: Order::one(),
             sets: [0; CAPACITY],
             count: 0,
         }
@@ -20,10 +20,7 @@ impl SetList {
     pub fn start(&mut self, order: usize) -> Result<(), Refusal>
         ensures { (result, drawing self.new) ≡ started order (drawing self.old) }
     {
-        if order < 1 || order > MAX_ORDER {
-            return Err(Refusal::Order);
-        }
-        self.order = order;
+        self.order = Order::try_from(order)?;
         self.count = 0;
         Ok(())
     }
@@ -38,7 +35,7 @@ impl SetList {
         if set == 0 {
             return Err(Refusal::Empty);
         }
-        if set as u32 >= 1 << self.order {
+        if u32::from(set) >= 1 << self.order.parts() {
             return Err(Refusal::Stray);
         }
         self.sets[at] = set;
@@ -49,12 +46,19 @@ impl SetList {
     pub fn order(&self) -> usize
         ensures { result ≡ (drawing self.now).order }
     {
-        self.order
+        self.order.parts()
+    }
+
+    // The digits of `state` that stand for a part.
+    pub(crate) fn known(&self, state: u32) -> u32
+        ensures { result ≡ state % 2 ^ (drawing self.now).order }
+    {
+        self.order.known(state)
     }
 
     pub fn sets(&self) -> &[u16]
         ensures { result.now ≡ (drawing self.now).sets }
     {
-        &self.sets[0..self.count]
+        &self.sets[..self.count]
     }
 }

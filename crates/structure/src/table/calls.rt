@@ -1,23 +1,24 @@
 // Filling a table from any structure, and asking it.
 ghost use Rattle.structure.specs.Meanings.{Same};
 ghost use Rattle.structure.specs.Tables.{tabled};
-ghost use Rattle.std.proofs.Common.{rules, arith};
+ghost use Rattle.std.proofs.Common.{rules};
 
 use super::{Table, WORDS};
-use crate::state::known;
+use crate::order::Order;
 use crate::structure::Structure;
 
 impl Table {
     // Asks `structure` every state once.
     pub fn fill<S: Structure>(structure: &S) -> Self
-        ensures { Same (tabled result.order result.words) (S.Structure.meaning structure.now) }
+        ensures { Same (tabled result.order.parts result.words) (S.Structure.meaning structure.now) }
     {
-        let order = structure.order();
+        let order = Order::of(structure);
         let mut words = [0; WORDS];
-        for state in 0..1u32 << order {
+        // A state is a number and no place of a list; its word and digit follow from it.
+        for state in 0..1u32 << order.parts() {
             if structure.works(state) {
                 let at = (state / 64) as usize;
-                words[at] = words[at] | 1 << (state % 64);
+                words[at] |= 1 << (state % 64);
             }
         }
         Table { order, words }
@@ -25,18 +26,18 @@ impl Table {
 }
 
 impl Structure for Table {
-    ghost meaning = { λ s. tabled s.order s.words };
+    ghost meaning = { λ s. tabled s.order.parts s.words };
 
-    ghost sized = { first_of (Prim.search rules, Prim.grind (arith, Self.row.coded.inj)) };
+    ghost sized = { Prim.search rules };
 
-    ghost monotone = { first_of (Prim.search rules, Prim.grind (arith, Self.row.coded.inj)) };
+    ghost monotone = { λ s. s.monotone };
 
     fn order(&self) -> usize {
-        self.order
+        self.order.parts()
     }
 
     fn works(&self, state: u32) -> bool {
-        let state = known(state, self.order);
+        let state = self.order.known(state);
         let word = self.words[(state / 64) as usize];
         (word >> (state % 64)) % 2 == 1
     }
