@@ -2,13 +2,14 @@
 use Rattle.std.proofs.Common.{◌≡◌, ℕ, zero, suc, ◌+◌, ◌^◌, ◌<◌, ◌≤◌, Bool, true, false, cond, not, ◌&&◌, ◌||◌, ◌∷◌, sym, refl, ap, ◌∙◌, ap₂, ⊎_elim, arith}
 use lib.Bits.{bit_and}
 use Rattle.std.proofs.lemmas.Bool.{cases_lt, cases_eq, eq-eqb, ne_eqb}
-use Rattle.structure.specs.Kinds.{any, all, covers, meets, path_list, cut_list}
+use Rattle.std.specs.List.{list_any, list_all, filter}
+use Rattle.structure.specs.Kinds.{covers, meets, path_list, cut_list}
 use Rattle.structure.specs.Meanings.{Meaning, Monotone, Same}
 use Rattle.structure.specs.States.{Within, digit, reversed}
 use Rattle.structure.specs.Digits.{within_and, and_within, digit_and, digit_none, digit_bit, digit_above, digit_reversed, same_digits, reversed_below, reversed_twice}
 use Rattle.structure.specs.LayersLemmas.{dual_monotone}
 use Rattle.analysis.specs.declared.role.Role.TheVariants.{Path, Cut}
-use Rattle.analysis.specs.Minimal.{does, minimal, minimal_sets, rising, keep}
+use Rattle.analysis.specs.Minimal.{does, minimal, minimal_sets, rising}
 use Rattle.analysis.proofs.Least.{told_by_least}
 
 pub paths_work : (m : Meaning) → Monotone m → Same (path_list (record { order = m.order; sets = minimal_sets Path m })) m
@@ -38,13 +39,13 @@ module _ (n s : ℕ) (small : s < 2 ^ n) where
       (λ some. ap not (ne_eqb (bit_and s c) 0 some ∙ sym (ne_eqb (bit_and (reversed n s) c) c (λ e. some (together c fits (within_and (reversed n s) c e))))))
       (cases_eq (bit_and s c) 0)
 
-  all_meets : (q : ℕ → Bool) (first count : ℕ) → first + count ≤ 2 ^ n → all (meets s) (keep q (rising first count)) ≡ not (any (covers (reversed n s)) (keep q (rising first count)))
+  all_meets : (q : ℕ → Bool) (first count : ℕ) → first + count ≤ 2 ^ n → list_all (meets s) (filter q (rising first count)) ≡ not (list_any (covers (reversed n s)) (filter q (rising first count)))
   all_meets q first zero fits = refl
   all_meets q first (suc count) fits =
-      let rest = keep q (rising (suc first) count) in
+      let rest = filter q (rising (suc first) count) in
       let later = all_meets q (suc first) count (omega arith) in
-      elim (q first) as (λ b. all (meets s) (cond b (first ∷ rest) rest) ≡ not (any (covers (reversed n s)) (cond b (first ∷ rest) rest))) [
-        | true ↦ ap₂ (λ x y. x && y) (meets_covers first (omega arith)) later ∙ both_not (covers (reversed n s) first) (any (covers (reversed n s)) rest)
+      elim (q first) as (λ b. list_all (meets s) (cond b (first ∷ rest) rest) ≡ not (list_any (covers (reversed n s)) (cond b (first ∷ rest) rest))) [
+        | true ↦ ap₂ (λ x y. x && y) (meets_covers first (omega arith)) later ∙ both_not (covers (reversed n s) first) (list_any (covers (reversed n s)) rest)
         | false ↦ later
       ]
     where

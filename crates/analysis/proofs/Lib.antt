@@ -1,4 +1,5 @@
 pub mod Rising
+pub mod Listings
 pub mod Sets
 pub mod Places
 pub mod Bounds
@@ -7,6 +8,7 @@ pub mod Least
 pub mod Duality
 pub mod Agreement
 pub mod Counts
+pub mod CountSums
 pub mod PathNumbers
 pub mod Placing
 pub mod Orders

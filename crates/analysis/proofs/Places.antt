@@ -1,10 +1,7 @@
 -- A list that is written into lent places one value at a time. Assumes nothing.
-use Rattle.std.proofs.Common.{◌≡◌, ℕ, zero, suc, ◌+◌, ◌<◌, ◌≤◌, leb, List, [], ◌∷◌, length, take, drop, set, Some, None, Ok, Err, sym, refl, ap, ◌∙◌, add-one, arith}
-use Rattle.std.proofs.lemmas.List.{take_all}
-use Rattle.std.proofs.lemmas.Bool.{cond-true, cond-false, le-leb, lt-leb}
-use Rattle.analysis.specs.declared.refusal.Refusal.TheVariants.{TooFewPlaces}
+use Rattle.std.proofs.Common.{◌≡◌, ℕ, zero, suc, ◌+◌, ◌<◌, ◌≤◌, List, [], ◌∷◌, length, take, drop, set, Some, None, sym, refl, ap, ◌∙◌, add-one, arith}
 use Rattle.analysis.specs.Listing.{first, others}
-use Rattle.analysis.specs.Places.{laid, done_or_too_few}
+use Rattle.analysis.specs.Places.{laid}
 
 pub length_laid : (xs places : List ℕ) → length (laid xs places) ≡ length places
 length_laid [] places = refl
@@ -54,20 +51,3 @@ written_more all before coming coming' places places' done x w e next stored =
       within = omega (arith, more.some);
       holds = stored ∙ ap (λ l. set l done x) w.holds ∙ sym more.longer ∙ ap (λ k. laid (take k all) before) (sym (add-one done));
     }
-
-no_more : (all : List ℕ) (done : ℕ) → first (drop done all) ≡ None → length all ≤ done
-no_more [] done e = omega arith
-no_more (y ∷ all) zero e = absurd (none_some y (sym e))
-no_more (y ∷ all) (suc done) e = omega (arith, no_more all done e)
-
-pub written_all : (all before coming places : List ℕ) (done : ℕ) → Written all before coming done places → first coming ≡ None → (done ≡ length all) × (places ≡ laid all before)
-written_all all before coming places done w e =
-    let end = no_more all done (sym (ap first w.left) ∙ e) in
-    (omega (arith, w.within), w.holds ∙ ap (λ l. laid l before) (take_all done all end))
-
--- the answer to a list that was written whole, or as far as the places reach
-pub filled_enough : (all places : List ℕ) → length all ≤ length places → Ok (length all) ≡ done_or_too_few (length all) places
-filled_enough all places h = sym (cond-true (leb (length all) (length places)) _ _ (le-leb (length all) (length places) h))
-
-pub filled_short : (all places : List ℕ) → length places < length all → Err (TooFewPlaces (length all)) ≡ done_or_too_few (length all) places
-filled_short all places h = sym (cond-false (leb (length all) (length places)) _ _ (lt-leb (length all) (length places) h))

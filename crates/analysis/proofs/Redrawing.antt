@@ -1,9 +1,12 @@
 -- Sets added one after another to a drawing. Assumes nothing.
-use Rattle.std.proofs.Common.{◌≡◌, ℕ, ◌<◌, List, [], ◌∷◌, ◌++◌, length, Some, None, Ok, Err, Option, Result, sym, refl, ap, ◌∙◌, append_assoc, arith}
+use Rattle.std.proofs.Common.{◌≡◌, ℕ, List, [], ◌∷◌, ◌++◌, Some, None, Ok, Err, Option, Result, sym, refl, ap, ◌∙◌, subst, append_assoc, arith}
+use Rattle.std.specs.Prelude.{MatchResult, IsOkAnd}
 use Rattle.structure.specs.declared.refusal.Refusal.{Refusal}
-use Rattle.structure.specs.Drawings.{Drawing, set_refused, added, unless}
+use Rattle.structure.specs.declared.set_list.SetList.{SetList}
+use Rattle.structure.specs.Drawings.{Drawing, drawing, set_refused, added, unless}
+use Rattle.structure.specs.Meanings.{Meaning, Same}
 use Rattle.analysis.specs.Listing.{first, others}
-use Rattle.analysis.specs.Redrawing.{first_refused}
+use Rattle.analysis.specs.Redrawing.{first_refused, Drawn, WorksAs}
 use Rattle.analysis.proofs.Places.{none_some, same_some}
 
 abbrev Answer : Type 0
@@ -27,6 +30,15 @@ with_set d x = record { order = d.order; sets = d.sets ++ (x ∷ []) }
 refused_later : (d : Drawing) (x : ℕ) (xs : List ℕ) → set_refused d x ≡ None → first_refused d (x ∷ xs) ≡ first_refused (with_set d x) xs
 refused_later d x xs e = ap (λ o. elim o [ Some other ↦ Some other | None ↦ first_refused (with_set d x) xs ]) e
 
+-- a list of any kind made of the drawn list is drawn from the same sets, and works as a drawing of them does
+pub made_of : {L : Type 0} (held : L → SetList) (kind : Drawing → Meaning) (m : Meaning) (sets : List ℕ) → Same (kind (record { order = m.order; sets = sets })) m → (r : Result SetList Refusal) (q : Result L Refusal) → Drawn drawing m.order sets r → MatchResult r (λ l. IsOkAnd q (λ x. held x ≡ l)) (λ why. q ≡ Err why) → Drawn (λ l. drawing (held l)) m.order sets q × WorksAs (λ l. kind (drawing (held l))) m q
+made_of held kind m sets same (Err why) q drawn refused =
+    subst (λ q. Drawn (λ l. drawing (held l)) m.order sets q × WorksAs (λ l. kind (drawing (held l))) m q) (sym refused) (drawn, tt)
+made_of held kind m sets same (Ok l) (Ok x) drawn holds =
+    let view : drawing (held x) ≡ record { order = m.order; sets = sets } = ap drawing holds ∙ drawn.1 in
+    ((drawn.0, view), subst (λ d. Same (kind d) m) (sym view) same)
+made_of held kind m sets same (Ok l) (Err why) drawn none = absurd none
+
 -- some of the sets are drawn, and the others are still to come
 pub record Drawing-on (start : Drawing) (all : List ℕ) (held : Drawing) (coming : List ℕ) : Type 0 where
   pub order : held.order ≡ start.order
@@ -46,6 +58,3 @@ module _ {start : Drawing} {all : List ℕ} {held : Drawing} {coming : List ℕ}
         sets = ap (λ (d : Drawing). d.sets ++ coming') parts.1 ∙ append_assoc held.sets (x ∷ []) coming' ∙ ap (λ l. held.sets ++ l) (sym cut) ∙ on.sets;
         refused = ap (λ d. first_refused d coming') parts.1 ∙ sym (refused_later held x coming' parts.0) ∙ ap (first_refused held) (sym cut) ∙ on.refused;
       }
-
-  pub drawing_less : (coming' : List ℕ) (x : ℕ) → first coming ≡ Some x → coming' ≡ others coming → length coming' < length coming
-  drawing_less coming' x here next = omega (arith, ap length (uncons coming x here), ap length next)

@@ -1,52 +1,18 @@
 -- A part matters where its swing is above 0, and sets of parts made one part at a time. Assumes nothing.
-use Rattle.std.proofs.Common.{◌≡◌, ℕ, zero, suc, ◌+◌, ◌-◌, ◌%◌, ◌^◌, ◌<◌, ◌≤◌, Bool, true, false, cond, ltb, sym, ap, ◌∙◌, ⊎_elim, pow-suc, add-one, arith, pow_mono}
+use Rattle.std.proofs.Common.{◌≡◌, ℕ, zero, not, suc, ◌+◌, ◌-◌, ◌%◌, ◌^◌, ◌<◌, ◌≤◌, Bool, true, false, cond, ◌∷◌, ltb, sym, refl, ap, ◌∙◌, ap₂, pow-suc, zero-add, arith, pow_mono}
 use lib.Pow.{ones_lt}
-use Rattle.std.proofs.lemmas.Bool.{cases_Bool, cases_lt, both_ways, lt-ltb, le-ltb}
-use Rattle.structure.specs.Kinds.{any}
+use Rattle.std.specs.List.{filter, range_with_len, sum_by}
+use Rattle.std.proofs.lemmas.List.Sums.{sum_by_from}
 use Rattle.structure.specs.Meanings.{Meaning}
 use Rattle.structure.specs.LayersLemmas.{asked_whole}
-use Rattle.weight.specs.Sums.{total}
 use Rattle.analysis.specs.Minimal.{rising}
 use Rattle.analysis.specs.Swings.{decides, swing_of}
-use Rattle.analysis.specs.Verdicts.{works_with_all, matters, parts_that}
-use Rattle.analysis.proofs.Least.{any_rising, rising_any}
-
-abbrev one : Bool → ℕ
-one b = cond b 1 0
-
--- how many numbers below k pass a test
-abbrev tally : (ℕ → Bool) → ℕ → ℕ
-tally test k = total 0 ◌+◌ (λ s. cond (test s) 1 0) k
-
-tally_some : (test : ℕ → Bool) (k s : ℕ) → s < k → test s ≡ true → 0 < tally test k
-tally_some test zero s lt e = absurd (omega arith)
-tally_some test (suc k) s lt e =
-    ⊎_elim (λ (below : s < k). omega (arith, tally_some test k s below e)) (λ (ge : k ≤ s). let here : k ≡ s = omega arith in omega (arith, ap one (ap test here ∙ e))) (cases_lt s k)
-
-some_tally : (test : ℕ → Bool) (k : ℕ) → 0 < tally test k → any test (rising 0 k) ≡ true
-some_tally test zero h = absurd (omega arith)
-some_tally test (suc k) h =
-    ⊎_elim
-    (λ e. rising_any test 0 (suc k) k (omega arith) (omega arith) e)
-    (λ (e : test k ≡ false).
-    let found = any_rising test 0 k (some_tally test k (omega (arith, ap one e))) in
-    rising_any test 0 (suc k) found.0 (omega arith) (omega (arith, found.2)) found.3)
-    (cases_Bool (test k))
+use Rattle.analysis.specs.Verdicts.{works_with_all, fails_with_none, matters, parts_that}
+use Rattle.analysis.proofs.Walks.{place_root, place_asked}
+use Rattle.analysis.proofs.CountSums.{total_count, any_count}
 
 pub matters_swing : (m : Meaning) (i : ℕ) → ltb 0 (swing_of m i) ≡ matters m i
-matters_swing m i =
-    let test = decides m i in
-    let k = 2 ^ m.order in
-    ⊎_elim
-    (λ (e : any test (rising 0 k) ≡ true).
-    let found = any_rising test 0 k e in
-    lt-ltb 0 (tally test k) (tally_some test k found.0 (omega (arith, found.2)) found.3) ∙ sym e)
-    (λ (e : any test (rising 0 k) ≡ false).
-    ⊎_elim
-    (λ (some : 0 < tally test k). absurd (both_ways (any test (rising 0 k)) e (some_tally test k some)))
-    (λ (none : tally test k ≤ 0). le-ltb 0 (tally test k) none ∙ sym e)
-    (cases_lt 0 (tally test k)))
-    (cases_Bool (any test (rising 0 k)))
+matters_swing m i = ap (ltb 0) (total_count (decides m i) (2 ^ m.order)) ∙ any_count (decides m i) (rising 0 (2 ^ m.order))
 
 pub parts_below : (test : ℕ → Bool) (k : ℕ) → parts_that test k < 2 ^ k
 parts_below test zero = omega arith
@@ -56,16 +22,39 @@ parts_below test (suc k) = omega (arith, parts_below test k, pow-suc 2 k, at_mos
     at_most true x = omega arith
     at_most false x = omega arith
 
-pub parts_yes : (test : ℕ → Bool) (k : ℕ) → test k ≡ true → parts_that test k + 2 ^ k ≡ parts_that test (k + 1)
-parts_yes test k e = sym (ap (parts_that test) (add-one k) ∙ ap (λ b. parts_that test k + cond b (2 ^ k) 0) e)
+-- the set as a sum over those that pass
+module _ (test : ℕ → Bool) (h : ℕ → ℕ) where
+  abbrev added : ℕ → ℕ → ℕ
+  added first n = sum_by h (filter test (range_with_len first n))
 
-pub parts_no : (test : ℕ → Bool) (k : ℕ) → test k ≡ false → parts_that test k ≡ parts_that test (k + 1)
-parts_no test k e = omega (arith, ap (parts_that test) (add-one k), ap (λ b. cond b (2 ^ k) 0) e)
+  added_first : (first n : ℕ) → added first (suc n) ≡ cond (test first) (h first) 0 + added (first + 1) n
+  added_first first n =
+      let rest = filter test (range_with_len (first + 1) n) in
+      elim (test first) as (λ b. sum_by h (cond b (first ∷ rest) rest) ≡ cond b (h first) 0 + sum_by h rest) [
+        | true ↦ sum_by_from h (0 + h first) rest ∙ omega arith
+        | false ↦ sym (zero-add (sum_by h rest))
+      ]
 
--- one more part still fits 16 digits
-pub parts_fit : (test : ℕ → Bool) (k : ℕ) → k < 16 → parts_that test k + 2 ^ k < 65536
-parts_fit test k h = let all : 2 ^ suc k ≤ 2 ^ 16 = pow_mono h in omega (arith, parts_below test k, pow-suc 2 k, all)
+  added_last : (first n : ℕ) → added first (suc n) ≡ added first n + cond (test (first + n)) (h (first + n)) 0
+  added_last first zero =
+      let here : first ≡ first + 0 = omega arith in omega (arith, added_first first 0, ap (λ k. cond (test k) (h k) 0) here)
+  added_last first (suc n) =
+      let here : first + 1 + n ≡ first + suc n = omega arith in
+      omega (arith, added_first first (suc n), added_first first n, added_last (first + 1) n, ap (λ k. cond (test k) (h k) 0) here)
 
--- the state with all parts working, asked as it is
-pub asked_all : (m : Meaning) (x : ℕ) → x ≡ 2 ^ m.order → m.works ((x - 1) % 2 ^ m.order) ≡ works_with_all m
-asked_all m x e = ap (λ y. m.works ((y - 1) % 2 ^ m.order)) e ∙ asked_whole m (2 ^ m.order - 1) (ones_lt m.order)
+  pub parts_added : (n : ℕ) → ((i : ℕ) → i < n → h i ≡ 2 ^ i) → added 0 n ≡ parts_that test n
+  parts_added zero same = refl
+  parts_added (suc n) same =
+      let here : 0 + n ≡ n = omega arith in
+      added_last 0 n
+      ∙ ap₂ (λ x y. x + y) (parts_added n (λ i lt. same i (omega arith))) (ap (λ k. cond (test k) (h k) 0) here ∙ ap (λ x. cond (test n) x 0) (same n (omega arith)))
+
+pub parts_fit : (test : ℕ → Bool) (n : ℕ) → n ≤ 16 → parts_that test n < 65536
+parts_fit test n h = let all : 2 ^ n ≤ 2 ^ 16 = pow_mono h in omega (arith, parts_below test n)
+
+-- what is answered where all parts work and where none does
+pub ends_asked : (m : Meaning) (n every : ℕ) (all none : Bool) → n ≡ m.order → every ≡ 2 ^ n - 1 → all ≡ m.works (every % 2 ^ m.order) → none ≡ m.works (0 % 2 ^ m.order) → (all ≡ works_with_all m) × (not none ≡ fails_with_none m)
+ends_asked m n every all none order is all-is none-is = (
+  all-is ∙ ap (λ x. m.works (x % 2 ^ m.order)) (is ∙ ap (λ k. 2 ^ k - 1) order) ∙ asked_whole m (2 ^ m.order - 1) (ones_lt m.order),
+  ap not (none-is ∙ place_asked m 0 0 (place_root m.order)),
+)

@@ -8,5 +8,6 @@ pub mod PathNumbers
 pub mod Orders
 pub mod Weighed
 pub mod Walks
+pub mod Walking
 pub mod Swings
 pub mod Verdicts

@@ -1,6 +1,7 @@
 -- Minimal paths and minimal cuts, and the order in which they are listed. Assumes nothing.
-use Rattle.std.specs.Prelude.{ℕ, zero, suc, ◌-◌, ◌^◌, Bool, cond, not, ◌&&◌, List, [], ◌∷◌, ◌==◌}
-use Rattle.structure.specs.Kinds.{any}
+use Rattle.std.specs.Prelude.{ℕ, zero, suc, ◌-◌, ◌^◌, Bool, not, ◌&&◌, List, [], ◌∷◌, ◌==◌}
+use Rattle.std.specs.List.{list_any, filter}
+pub use Rattle.std.specs.List.{filter as keep}
 use Rattle.structure.specs.Meanings.{Meaning}
 use Rattle.structure.specs.States.{digit, reversed}
 use Rattle.analysis.specs.declared.role.Role.{Role}
@@ -22,13 +23,8 @@ spare role m set i = (digit set i) == 1 && does role m (set - 2 ^ i)
 
 -- does its work, and with any one part less does not
 abbrev pub minimal : Role → Meaning → ℕ → Bool
-minimal role m set = does role m set && not (any (spare role m set) (rising 0 m.order))
-
--- those that pass a test, in their order
-abbrev pub keep : (ℕ → Bool) → List ℕ → List ℕ
-keep test [] = []
-keep test (x ∷ xs) = let rest = keep test xs in cond (test x) (x ∷ rest) rest
+minimal role m set = does role m set && not (list_any (spare role m set) (rising 0 m.order))
 
 -- all minimal sets, listed by rising number
 abbrev pub minimal_sets : Role → Meaning → List ℕ
-minimal_sets role m = keep (minimal role m) (rising 0 (2 ^ m.order))
+minimal_sets role m = filter (minimal role m) (rising 0 (2 ^ m.order))

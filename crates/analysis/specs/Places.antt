@@ -14,5 +14,5 @@ abbrev pub laid_whole : List ℕ → List ℕ → List ℕ
 laid_whole xs places = cond (nat_le (length xs) (length places)) (laid xs places) places
 
 -- as many as were needed, or a refusal that says how many are
-abbrev pub done_or_too_few : ℕ → List ℕ → Result ℕ Refusal
+abbrev pub done_or_too_few : {A : Type 0} → ℕ → List A → Result ℕ Refusal
 done_or_too_few needed places = cond (nat_le needed (length places)) (Ok needed) (Err (TooFewPlaces needed))

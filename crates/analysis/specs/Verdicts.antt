@@ -1,6 +1,6 @@
 -- What a verdict on a structure says. Assumes nothing.
 use Rattle.std.specs.Prelude.{ℕ, ◌+◌, ◌-◌, ◌^◌, Bool, cond, not, ◌&&◌}
-use Rattle.structure.specs.Kinds.{any}
+use Rattle.std.specs.List.{list_any}
 use Rattle.structure.specs.Meanings.{Meaning}
 use Rattle.weight.specs.Sums.{total}
 use Rattle.analysis.specs.Minimal.{rising}
@@ -14,7 +14,7 @@ fails_with_none m = not (m.works 0)
 
 -- part i changes the answer in some state of the others
 abbrev pub matters : Meaning → ℕ → Bool
-matters m i = any (decides m i) (rising 0 (2 ^ m.order))
+matters m i = list_any (decides m i) (rising 0 (2 ^ m.order))
 
 -- the set of those of the parts 0 to n - 1 that pass a test
 abbrev pub parts_that : (ℕ → Bool) → ℕ → ℕ

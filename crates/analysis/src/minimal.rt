@@ -1,44 +1,51 @@
 // Whether one set of parts is a minimal path or a minimal cut of a structure.
 ghost use Rattle.std.specs.Prelude.{◌≡◌, ◌%◌, ◌^◌, ◌<◌};
+ghost use Rattle.std.specs.List.{list_any};
 ghost use Rattle.analysis.specs.Minimal.{does, minimal, rising, spare};
-ghost use Rattle.structure.specs.Kinds.{any};
 
 use crate::role::Role;
+use structure::order::Order;
 use structure::structure::Structure;
 
 // Digits of `set` from the order on are ignored.
 pub fn is_minimal<S: Structure>(structure: &S, role: Role, set: u32) -> bool
     ensures { result ≡ minimal role (S.Structure.meaning structure.now) (set % 2 ^ (S.Structure.meaning structure.now).order) }
 {
-    let set = set % (1 << structure.order());
-    does_its_work(structure, role, set) && !has_spare(structure, role, set)
+    let set = Order::of(structure).known(set);
+    let task = Task { structure, role };
+    task.is_done_by(set) && !task.has_spare(set)
 }
 
-fn does_its_work<S: Structure>(structure: &S, role: Role, set: u32) -> bool
-    requires { set < 2 ^ (S.Structure.meaning structure.now).order }
-    ensures { result ≡ does role (S.Structure.meaning structure.now) set }
-{
-    match role {
-        Role::Path => structure.works(set),
-        Role::Cut => !structure.works((1 << structure.order()) - 1 - set),
-    }
+// A path's task is to make the structure work, a cut's to stop it.
+#[derive(Drop)]
+struct Task<'a, S> {
+    structure: &'a S,
+    role: Role,
 }
 
-fn has_spare<S: Structure>(structure: &S, role: Role, set: u32) -> bool
-    requires { set < 2 ^ (S.Structure.meaning structure.now).order }
-    ensures { result ≡ any (spare role (S.Structure.meaning structure.now) set) (rising 0 (S.Structure.meaning structure.now).order) }
-{
-    for part in 0..structure.order() {
-        if can_spare(structure, role, set, part) {
-            return true;
+// That a set has no digits from the order on is asked three times: as a field it would be built anew for each part.
+impl<S: Structure> Task<'_, S> {
+    fn is_done_by(&self, set: u32) -> bool
+        requires { set < 2 ^ (S.Structure.meaning self.now.structure.now).order }
+        ensures { result ≡ does self.now.role (S.Structure.meaning self.now.structure.now) set }
+    {
+        match self.role {
+            Role::Path => self.structure.works(set),
+            Role::Cut => !self.structure.works(Order::of(self.structure).reverse(set)),
         }
     }
-    false
-}
 
-fn can_spare<S: Structure>(structure: &S, role: Role, set: u32, part: usize) -> bool
-    requires { (set < 2 ^ (S.Structure.meaning structure.now).order) × (part < (S.Structure.meaning structure.now).order) }
-    ensures { result ≡ spare role (S.Structure.meaning structure.now) set part }
-{
-    (set >> part) % 2 == 1 && does_its_work(structure, role, set - (1 << part))
+    fn has_spare(&self, set: u32) -> bool
+        requires { set < 2 ^ (S.Structure.meaning self.now.structure.now).order }
+        ensures { result ≡ list_any (spare self.now.role (S.Structure.meaning self.now.structure.now) set) (rising 0 (S.Structure.meaning self.now.structure.now).order) }
+    {
+        (0..self.structure.order()).any(|part| self.can_spare(set, part))
+    }
+
+    fn can_spare(&self, set: u32, part: usize) -> bool
+        requires { (set < 2 ^ (S.Structure.meaning self.now.structure.now).order) × (part < (S.Structure.meaning self.now.structure.now).order) }
+        ensures { result ≡ spare self.now.role (S.Structure.meaning self.now.structure.now) set part }
+    {
+        (set >> part) % 2 == 1 && self.is_done_by(set - (1 << part))
+    }
 }

@@ -6,9 +6,13 @@ ghost use Rattle.analysis.specs.Places.{laid, done_or_too_few};
 use crate::listing::Listing;
 use crate::refusal::Refusal;
 use crate::role::Role;
+use crate::room::enough;
 use structure::structure::Structure;
 
-// Where the places are too few, they hold the first sets.
+// As many as 16 parts can have: those of 8-of-16.
+pub const MOST_SETS: usize = 12870;
+
+// Where the places are too few, they hold the first sets. They are lent, so the answer counts them, as that of a tally or a signature does.
 pub fn minimal_sets<S: Structure>(
     structure: &S,
     role: Role,
@@ -17,22 +21,19 @@ pub fn minimal_sets<S: Structure>(
     ensures answer { result ≡ done_or_too_few (length (minimal_sets role (S.Structure.meaning structure.now))) places.old }
     ensures places { places.new ≡ laid (minimal_sets role (S.Structure.meaning structure.now)) places.old }
 {
-    let mut listing = Listing::new(role);
     let mut needed = 0;
-    while let Some(found) = listing.next(structure) {
-        put(places, needed, found);
-        needed += 1;
+    for (at, set) in Listing::new(structure, role).enumerate() {
+        put(places, at, set);
+        needed = at + 1;
     }
-    if needed > places.len() {
-        return Err(Refusal::TooFewPlaces { needed });
-    }
-    Ok(needed)
+    enough(needed, places)
 }
 
 // Past the last place nothing is written.
 fn put(places: &mut [u16], at: usize, value: u16)
     ensures { places.new ≡ slice_set places.old at value }
 {
+    // The contract of `get_mut` of a slice leaves open what is written through it.
     if at < places.len() {
         places[at] = value;
     }

@@ -13,13 +13,12 @@ use structure::refusal::Refusal;
 use structure::set_list::SetList;
 use structure::structure::Structure;
 
-// The path list of all minimal paths.
+// The path list of all minimal paths. It and the next are a line each over `draw`: one for both would need a trait whose law is the theorem of each.
 pub fn redraw_paths<S: Structure>(structure: &S) -> Result<PathList, Refusal>
     ensures drawn { Drawn (λ l. drawing l.list) (S.Structure.meaning structure.now).order (minimal_sets Path (S.Structure.meaning structure.now)) result }
     ensures works { WorksAs (λ l. path_list (drawing l.list)) (S.Structure.meaning structure.now) result }
 {
-    let list = draw(structure, Role::Path)?;
-    Ok(PathList::of(list))
+    draw(structure, Role::Path).map(PathList::of)
 }
 
 // The cut list of all minimal cuts.
@@ -27,18 +26,16 @@ pub fn redraw_cuts<S: Structure>(structure: &S) -> Result<CutList, Refusal>
     ensures drawn { Drawn (λ l. drawing l.list) (S.Structure.meaning structure.now).order (minimal_sets Cut (S.Structure.meaning structure.now)) result }
     ensures works { WorksAs (λ l. cut_list (drawing l.list)) (S.Structure.meaning structure.now) result }
 {
-    let list = draw(structure, Role::Cut)?;
-    Ok(CutList::of(list))
+    draw(structure, Role::Cut).map(CutList::of)
 }
 
 fn draw<S: Structure>(structure: &S, role: Role) -> Result<SetList, Refusal>
     ensures { Drawn drawing (S.Structure.meaning structure.now).order (minimal_sets role (S.Structure.meaning structure.now)) result }
 {
-    let mut listing = Listing::new(role);
     let mut list = SetList::new();
     list.start(structure.order())?;
-    while let Some(found) = listing.next(structure) {
-        list.add(found)?;
+    for set in Listing::new(structure, role) {
+        list.add(set)?;
     }
     Ok(list)
 }

@@ -4,6 +4,7 @@ ghost use Rattle.analysis.specs.Verdicts.{works_with_all, fails_with_none, matte
 
 use crate::coherence::Verdict;
 use crate::swing::swing;
+use structure::order::Order;
 use structure::structure::Structure;
 
 pub fn verdict<S: Structure>(structure: &S) -> Verdict
@@ -12,7 +13,7 @@ pub fn verdict<S: Structure>(structure: &S) -> Verdict
     ensures relevant { result.relevant ≡ relevant_parts (S.Structure.meaning structure.now) }
     ensures coherent { result.coherent ≡ is_coherent (S.Structure.meaning structure.now) }
 {
-    let works_with_all = structure.works((1 << structure.order()) - 1);
+    let works_with_all = structure.works(Order::of(structure).all());
     let fails_with_none = !structure.works(0);
     Verdict {
         works_with_all,
@@ -25,21 +26,15 @@ pub fn verdict<S: Structure>(structure: &S) -> Verdict
 fn relevant_parts<S: Structure>(structure: &S) -> u16
     ensures { result ≡ relevant_parts (S.Structure.meaning structure.now) }
 {
-    let mut parts = 0;
-    for part in 0..structure.order() {
-        if is_relevant(structure, part) {
-            parts += 1 << part;
-        }
-    }
-    parts
+    (0..structure.order())
+        .filter(|part| is_relevant(structure, *part))
+        .map(|part| 1 << part)
+        .sum()
 }
 
 fn is_relevant<S: Structure>(structure: &S, part: usize) -> bool
     requires { part < (S.Structure.meaning structure.now).order }
     ensures { result ≡ matters (S.Structure.meaning structure.now) part }
 {
-    match swing(structure, part) {
-        Ok(states) => states > 0,
-        Err(_) => false,
-    }
+    swing(structure, part).is_ok_and(|states| states > 0)
 }

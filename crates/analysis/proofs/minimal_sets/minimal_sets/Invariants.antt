@@ -1,11 +1,12 @@
-use Rattle.std.proofs.Common.{length}
+use Rattle.std.proofs.Common.{◌≡◌}
 use Rattle.analysis.specs.Listing.{ahead}
+use Rattle.analysis.specs.Minimal.{minimal_sets}
 use Rattle.analysis.proofs.Places.{Written}
 use Rattle.analysis.proofs.minimal_sets.minimal_sets.Given as goal
 
-abbrev pub invariant-loop-found : goal.invariant-loop-found
-invariant-loop-found g l =
-    let m = g.S.Structure.meaning l.structure in Written (ahead l.initial.listing m) l.initial.places (ahead l.listing m) l.needed l.places
-
-abbrev pub decreases-loop-found : goal.decreases-loop-found
-decreases-loop-found g l = length (ahead l.listing (g.S.Structure.meaning l.structure))
+abbrev pub invariant-loop-at : goal.invariant-loop-at
+invariant-loop-at g l =
+    (goal.iterator-loop-at g).can_next l.at-iterator
+    × (goal.iterator-loop-at g).is_finite l.at-iterator
+    × (l.at-iterator.count ≡ l.needed)
+    × Written (minimal_sets l.fn.role (g.S.Structure.meaning l.structure)) l.initial.places (ahead g.S.Structure.meaning l.at-iterator.iter) l.needed l.places
