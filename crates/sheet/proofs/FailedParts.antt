@@ -1,5 +1,5 @@
 -- The set of the parts that count as failed, digit by digit. Assumes nothing.
-use Rattle.std.proofs.Common.{◌≡◌, ℕ, zero, suc, ◌+◌, ◌^◌, ◌<◌, Bool, true, false, cond, ◌&&◌, ltb, ◌≢◌, List, get_or, sym, refl, ap, ◌∙◌, ⊎_elim, pow-suc, add-one, arith, pow_mono}
+use Rattle.std.proofs.Common.{◌≡◌, ℕ, zero, suc, ◌+◌, ◌^◌, ◌<◌, Bool, true, false, cond, ◌&&◌, ltb, ◌≢◌, List, get_or, sym, refl, ap, ◌∙◌, ⊎_elim, pow-suc, arith, pow_mono}
 use Rattle.std.proofs.lemmas.Bool.{cases_order, lt-ltb, le-ltb}
 use Rattle.structure.specs.States.{digit}
 use Rattle.structure.specs.Digits.{digit_none, digit_above, digit_part_same, digit_part_other}
@@ -20,14 +20,9 @@ failed_small (suc n) rows = bit_fits (counts_as_failed (get_or rows n blank_row)
 pub failed_fits : (n : ℕ) (rows : List Row) → n < 16 → failed_below n rows + 2 ^ n < 65536
 failed_fits n rows few = omega (arith, failed_small n rows, pow-suc 2 n, pow_mono {j = 16} few)
 
--- one more part looked at
-pub failed_more : (b : Bool) (n : ℕ) (rows : List Row) → counts_as_failed (get_or rows n blank_row) ≡ b → failed_below (n + 1) rows ≡ failed_below n rows + cond b (2 ^ n) 0
-failed_more b n rows e = ap (λ k. failed_below k rows) (add-one n) ∙ ap (λ f. failed_below n rows + cond f (2 ^ n) 0) e
-
 -- they are the set of those that pass the test of being failed
 pub failed_set : (n : ℕ) (rows : List Row) → failed_below n rows ≡ set_of (λ part. counts_as_failed (get_or rows part blank_row)) n
-failed_set zero rows = refl
-failed_set (suc n) rows = ap (λ s. s + cond (counts_as_failed (get_or rows n blank_row)) (2 ^ n) 0) (failed_set n rows)
+failed_set n rows = refl
 
 digit_put : (b : Bool) (n s i : ℕ) → s < 2 ^ n → digit (s + cond b (2 ^ n) 0) i ≡ digit s i + cond b (digit (2 ^ n) i) 0
 digit_put true n s i small = digit_mended n i s (digit_above s n n small (omega arith))

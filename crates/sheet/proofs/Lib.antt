@@ -1,5 +1,6 @@
 pub mod Sheets
 pub mod FailedParts
+pub mod ArrayMaps
 pub mod Ratings
 pub mod Trials
 pub mod Weighing

@@ -1,5 +1,6 @@
 -- What the trial of one part tells, and the lowest loss so far. Assumes nothing.
 use Rattle.std.proofs.Common.{◌≡◌, ℕ, ◌+◌, ◌<◌, ◌≤◌, true, leb, ◌⊎◌, Some, None, Ok, Err, Option, Result, sym, refl, ap, subst, inl, inr, ⊎_elim, arith}
+use Rattle.std.specs.Option.{option_map}
 use Rattle.std.proofs.lemmas.Bool.{cases_Bool, cases_eq, cases_lt, lt-ltb, le-ltb, leb-true, leb-false, cond_both}
 use Rattle.structure.specs.Meanings.{Meaning}
 use Rattle.sheet.specs.declared.refusal.Refusal.{Refusal}
@@ -110,11 +111,7 @@ module _ (m : Meaning) (p : Page) where
         first = λ other in_service before. omega (arith, leb-false _ _ falls, sofar.lowest other in_service before);
       }))
 
-  abbrev pub part_of : Option Loss → Option ℕ
-  part_of None = None
-  part_of (Some loss) = Some loss.part
-
-  pub sofar_all : (k : ℕ) (lowest : Option Loss) → k ≡ p.order → Sofar k lowest → Names m p (part_of lowest)
+  pub sofar_all : (k : ℕ) (lowest : Option Loss) → k ≡ p.order → Sofar k lowest → Names m p (option_map (λ (loss : Loss). loss.part) lowest)
   sofar_all k None all none = λ part here. none part here (omega (arith, here.known))
   sofar_all k (Some loss) all sofar = record {
     in_service = sofar.in_service;

@@ -1,6 +1,7 @@
 -- A part withdrawn and then put back. Assumes nothing.
 use Rattle.std.proofs.Common.{◌≡◌, ℕ, ◌<◌, ◌≤◌, Bool, true, false, cond, ltb, length, is_ok, Some, None, Option, sym, refl, ap, ◌∙◌, ap₂, arith, get_or-set_same, set-set}
 use Rattle.std.proofs.lemmas.Bool.{lt-ltb, ltb-true}
+use Rattle.std.specs.Bool.{then_some}
 use Rattle.sheet.specs.declared.refusal.Refusal.{Refusal}
 use Rattle.sheet.specs.declared.refusal.Refusal.TheVariants.{Part, Withdrawn}
 use Rattle.sheet.specs.Rows.{blank_row, unless, with_mark}
@@ -20,7 +21,7 @@ marked_unmarked p part within room free =
     ∙ ap (placed p part) unmarked ∙ placed_same p part)
 
 -- a trial's mark is taken off only where the trial made it
-tried : (p : Page) (part : ℕ) (why : Option Refusal) → (why ≡ None → (put_back part (changed (with_mark true) part p)).1 ≡ p) → (let x = unless why (changed (with_mark true) part p) p in trial_over (is_ok x.0) part x.1) ≡ p
+tried : (p : Page) (part : ℕ) (why : Option Refusal) → (why ≡ None → (put_back part (changed (with_mark true) part p)).1 ≡ p) → (let x = unless why (changed (with_mark true) part p) p in trial_over (then_some (is_ok x.0) part) x.1) ≡ p
 tried p part None back = back refl
 tried p part (Some why) back = refl
 
@@ -33,10 +34,10 @@ free_to_withdraw : (p : Page) (part : ℕ) → withdraw_refused part p ≡ None 
 free_to_withdraw p part e =
     let free = none_fits (ltb part p.order) (row_of part p).withdrawn e in (ltb-true part p.order free.0, free.1)
 
-trial_ends : (p : Page) (part : ℕ) → p.order ≤ length p.rows → trial_over (is_ok (taken_out part p).0) part (on_trial part p) ≡ p
+trial_ends : (p : Page) (part : ℕ) → p.order ≤ length p.rows → trial_over (then_some (is_ok (taken_out part p).0) part) (on_trial part p) ≡ p
 trial_ends p part room =
     tried p part (withdraw_refused part p) (λ e. let free = free_to_withdraw p part e in marked_unmarked p part free.0 room free.1)
 
 -- whatever the withdrawal answered, the end of the trial brings the sheet back
-pub back_as_before : (p q : Page) (part : ℕ) (marked : Bool) → p.order ≤ length p.rows → q ≡ on_trial part p → marked ≡ is_ok (taken_out part p).0 → trial_over marked part q ≡ p
-back_as_before p q part marked room during made = ap₂ (λ m x. trial_over m part x) made during ∙ trial_ends p part room
+pub back_as_before : (p q : Page) (part : ℕ) (marked : Option ℕ) → p.order ≤ length p.rows → q ≡ on_trial part p → marked ≡ then_some (is_ok (taken_out part p).0) part → trial_over marked q ≡ p
+back_as_before p q part marked room during made = ap₂ trial_over made during ∙ trial_ends p part room

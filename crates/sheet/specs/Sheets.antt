@@ -14,7 +14,7 @@ pub record Page : Type 0 where
   pub rows : List Row
 
 abbrev pub page : Sheet → Page
-page sheet = record { order = sheet.order; rows = sheet.rows }
+page sheet = record { order = sheet.order.parts; rows = sheet.rows }
 
 abbrev pub row_of : ℕ → Page → Row
 row_of part p = slice_index_or p.rows part blank_row
@@ -35,8 +35,7 @@ set_of test (suc n) = set_of test n + cond (test n) (2 ^ n) 0
 
 -- of the parts below n, the set of those that count as failed
 abbrev pub failed_below : ℕ → List Row → ℕ
-failed_below zero rows = 0
-failed_below (suc n) rows = failed_below n rows + cond (counts_as_failed (slice_index_or rows n blank_row)) (2 ^ n) 0
+failed_below n rows = set_of (λ part. counts_as_failed (slice_index_or rows part blank_row)) n
 
 abbrev pub failed_parts : Page → ℕ
 failed_parts p = failed_below p.order p.rows

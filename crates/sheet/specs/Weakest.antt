@@ -1,6 +1,6 @@
 -- The part in service whose loss leaves the lowest figure. Assumes nothing.
 use Rattle.std.specs.Prelude.{◌≡◌, ℕ, ◌<◌, ◌≤◌, Bool, false, cond, not, List, [], ◌∷◌, Some, None, Ok, Err, Option, Result, ◌==◌, nat_lt}
-use Rattle.structure.specs.Kinds.{any}
+use Rattle.std.specs.List.{list_any}
 use Rattle.structure.specs.Meanings.{Meaning}
 use Rattle.analysis.specs.Minimal.{keep, rising}
 use Rattle.sheet.specs.declared.refusal.Refusal.{Refusal}
@@ -20,7 +20,7 @@ figure_without m p part = figure_at m (on_trial part p)
 
 -- some part in service, when lost, leaves a lower figure than this one
 abbrev pub outdone : Meaning → Page → ℕ → Bool
-outdone m p part = any (λ other. nat_lt (figure_without m p other) (figure_without m p part)) (parts_in_service p)
+outdone m p part = list_any (λ other. nat_lt (figure_without m p other) (figure_without m p part)) (parts_in_service p)
 
 abbrev pub first_of : List ℕ → Option ℕ
 first_of [] = None

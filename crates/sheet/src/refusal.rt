@@ -37,6 +37,7 @@ impl Refusal {
     }
 }
 
+// Written by hand here and below, since contracts read `from_gives`, which no derive writes.
 impl From<StructureRefusal> for Refusal {
     ghost from_gives = { λ why refusal. refusal ≡ Structure why };
 

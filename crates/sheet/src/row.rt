@@ -9,7 +9,7 @@ pub mod reading;
 // The rating of a part that never fails.
 pub const SURE: u32 = 65536;
 
-pub const MAX_PRICE: u32 = 65535;
+pub const MAX_PRICE: u32 = u16::MAX as u32;
 
 #[derive(Clone, Copy)]
 pub struct Row {
@@ -45,10 +45,7 @@ impl Row {
     pub(crate) fn set_price(&mut self, price: u32) -> Result<(), Refusal>
         ensures { (result, self.new) ≡ row_priced price self.old }
     {
-        if price > MAX_PRICE {
-            return Err(Refusal::Price);
-        }
-        self.price = price as u16;
+        self.price = u16::try_from(price).map_err(|_| Refusal::Price)?;
         Ok(())
     }
 

@@ -3,6 +3,7 @@ ghost use Rattle.std.specs.Prelude.{◌≡◌, ℕ, ◌≤◌, length, slice_ind
 ghost use Rattle.sheet.specs.Rows.{blank_row};
 
 use crate::row::Row;
+use structure::order::Order;
 use structure::structure::MAX_ORDER;
 
 pub mod calls;
@@ -10,10 +11,10 @@ pub mod reading;
 
 #[derive(Clone, Copy)]
 pub struct Sheet {
-    order: usize,
+    order: Order,
+    // One for each part and the others unused: sheets are copied and take no heap.
     rows: [Row; MAX_ORDER],
-    ghost low: { 1 ≤ order },
-    ghost high: { order ≤ 16 },
     ghost whole: { length rows ≡ 16 },
+    // Said here and not of a row: the definitions make a row of any rating.
     ghost bounded: { (i : ℕ) → (slice_index_or rows i blank_row).rating ≤ 65536 },
 }

@@ -21,6 +21,7 @@ fn failed_without(sheet: &mut Sheet, part: usize, other: usize) -> Result<u16, R
 fn first_to_leave(sheet: &mut Sheet, failed: u16) -> Option<usize>
     ensures { page sheet.new ≡ page sheet.old }
 {
+    // A loop, as in `weakest`: each trial borrows the sheet mutably.
     for part in 0..sheet.order() {
         let trial = Trial::begin(sheet, part);
         if trial.sheet().withdrawn() == failed {

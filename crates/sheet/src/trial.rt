@@ -7,8 +7,8 @@ use crate::sheet::Sheet;
 
 pub struct Trial<'a> {
     sheet: &'a mut Sheet,
-    part: usize,
-    marked: bool,
+    // The part whose mark the trial made.
+    marked: Option<usize>,
 }
 
 impl<'a> Trial<'a> {
@@ -16,14 +16,10 @@ impl<'a> Trial<'a> {
     pub fn begin(sheet: &'a mut Sheet, part: usize) -> Trial<'a>
         ensures lent { result.sheet.ghost_name ≡ sheet.entry.ghost_name }
         ensures during { page result.sheet.now ≡ on_trial part (page sheet.old) }
-        ensures after { trial_over result.marked result.part (page result.sheet.now) ≡ page sheet.old }
+        ensures after { trial_over result.marked (page result.sheet.now) ≡ page sheet.old }
     {
-        let marked = sheet.withdraw(part).is_ok();
-        Trial {
-            sheet,
-            part,
-            marked,
-        }
+        let marked = sheet.withdraw(part).is_ok().then_some(part);
+        Trial { sheet, marked }
     }
 
     pub fn sheet(&self) -> &Sheet
@@ -35,14 +31,10 @@ impl<'a> Trial<'a> {
 
 impl Drop for Trial<'_> {
     fn drop(self)
-        ensures { page self.exit.0.now ≡ trial_over self.entry.marked self.entry.part (page self.entry.sheet.now) }
+        ensures { page self.exit.0.now ≡ trial_over self.entry.marked (page self.entry.sheet.now) }
     {
-        let Trial {
-            sheet,
-            part,
-            marked,
-        } = self;
-        if marked {
+        let Trial { sheet, marked } = self;
+        if let Some(part) = marked {
             let _ = sheet.put_back(part);
         }
     }

@@ -17,26 +17,22 @@ struct Loss {
     figure: u64,
 }
 
+// What is left of a sheet that was lent no type can say, so each contract says it.
 // The part whose loss leaves the lowest figure, the first among equals; none where no part is in service.
 pub fn weakest<S: Structure>(structure: &S, sheet: &mut Sheet) -> Result<Option<usize>, Refusal>
     ensures kept { page sheet.new ≡ page sheet.old }
     ensures answer { result ≡ weakest_or_refusal (S.Structure.meaning structure.now) (page sheet.old) }
     ensures names { NamesUnlessRefused (S.Structure.meaning structure.now) (page sheet.old) result }
 {
-    let order = sheet.order();
-    if structure.order() != order {
-        return Err(Refusal::Orders);
-    }
+    sheet.check_order(structure)?;
     let mut lowest = None;
-    for part in 0..order {
+    // A loop, for each trial borrows the sheet mutably: what a chain's closure leaves of it is not known.
+    for part in 0..sheet.order() {
         if let Ok(figure) = figure_without(structure, sheet, part) {
             lowest = Some(lower(lowest, Loss { part, figure }));
         }
     }
-    match lowest {
-        Some(loss) => Ok(Some(loss.part)),
-        None => Ok(None),
-    }
+    Ok(lowest.map(|loss| loss.part))
 }
 
 // The figure while `part` is withdrawn on trial.

@@ -1,5 +1,6 @@
 // Reading a sheet.
-ghost use Rattle.std.specs.Prelude.{◌≡◌, ℕ, ◌≤◌, map, slice_index};
+ghost use Rattle.std.specs.Prelude.{◌≡◌, ℕ, ◌≤◌, length, map, take, slice_index};
+ghost use Rattle.sheet.specs.Cheapest.{prices_of};
 ghost use Rattle.sheet.specs.Rows.{rating_in_force};
 ghost use Rattle.sheet.specs.Sheets.{page, row_if_any, failed_parts, HasFailed};
 
@@ -11,16 +12,13 @@ impl Sheet {
     pub fn order(&self) -> usize
         ensures { result ≡ (page self.now).order }
     {
-        self.order
+        self.order.parts()
     }
 
     pub fn row(&self, part: usize) -> Option<Row>
         ensures { result ≡ row_if_any part (page self.now) }
     {
-        if part >= self.order {
-            return None;
-        }
-        Some(self.rows[part])
+        self.rows().get(part).copied()
     }
 
     // The parts that count as failed.
@@ -29,8 +27,8 @@ impl Sheet {
         ensures parts { HasFailed (page self.now) result }
     {
         let mut set = 0;
-        for part in 0..self.order {
-            if self.rows[part].counts_as_failed() {
+        for (part, row) in self.rows().iter().enumerate() {
+            if row.counts_as_failed() {
                 set += 1 << part;
             }
         }
@@ -41,10 +39,20 @@ impl Sheet {
         ensures value { result ≡ map rating_in_force (page self.now).rows }
         ensures bounded { (i : ℕ) → slice_index result i ≤ 65536 }
     {
-        let mut ratings = [0; MAX_ORDER];
-        for part in 0..MAX_ORDER {
-            ratings[part] = self.rows[part].rating_in_force();
-        }
-        ratings
+        self.rows.map(|row| row.rating_in_force())
+    }
+
+    pub(crate) fn prices(&self) -> [u16; MAX_ORDER]
+        ensures { result ≡ prices_of (page self.now) }
+    {
+        self.rows.map(|row| row.price())
+    }
+
+    // Of the rows, those of parts.
+    fn rows(&self) -> &[Row]
+        ensures rows { result.now ≡ take self.now.order.parts self.now.rows }
+        ensures count { length result.now ≡ self.now.order.parts }
+    {
+        &self.rows[..self.order.parts()]
     }
 }

@@ -1,6 +1,8 @@
-use Rattle.std.proofs.Common.{◌≡◌, ◌+◌, Some, None, sym, ap, ◌∙◌, subst, arith}
+use Rattle.std.proofs.Common.{◌≡◌, ◌+◌, sym, ap, ◌∙◌, subst, arith, rules}
+use Rattle.std.specs.Option.{option_map}
+use Rattle.sheet.specs.declared.weakest.Loss.{Loss}
 use Rattle.sheet.specs.Sheets.{page}
-use Rattle.sheet.specs.Weakest.{figure_without_or_refusal}
+use Rattle.sheet.specs.Weakest.{figure_without_or_refusal, Names}
 use Rattle.sheet.proofs.Losses.{Sofar, sofar_passed, sofar_met, sofar_all, tried_in_service, refused_out}
 use Rattle.sheet.proofs.Naming.{weakest_told}
 use Rattle.sheet.proofs.weakest.weakest.Goals as goal
@@ -23,20 +25,13 @@ loop-part-preserved g c =
       ],
     )
 
-pub returns-in-Some : goal.returns-in-Some
-returns-in-Some g c =
+pub returns : goal.returns
+returns g c =
     let m = g.S.Structure.meaning c.args.structure.now in
     let p = page c.args.sheet.now in
-    let all : c.loop-part.part ≡ p.order = omega (arith, c.order-order.ensures) in
-    let same : m.order ≡ p.order = omega (arith, c.order-order.ensures, c.order.ensures, c.if-order.false) in
-    let named = sofar_all m p c.loop-part.part (Some c.in-Some.loss) all (subst (Sofar m p c.loop-part.part) c.in-Some.is c.loop-part.invariant.1) in
-    record { kept = c.loop-part.invariant.0; answer = weakest_told m p (Some c.in-Some.loss.part) same named; names = named }
-
-pub returns-in-None : goal.returns-in-None
-returns-in-None g c =
-    let m = g.S.Structure.meaning c.args.structure.now in
-    let p = page c.args.sheet.now in
-    let all : c.loop-part.part ≡ p.order = omega (arith, c.order-order.ensures) in
-    let same : m.order ≡ p.order = omega (arith, c.order-order.ensures, c.order.ensures, c.if-order.false) in
-    let named = sofar_all m p c.loop-part.part None all (subst (Sofar m p c.loop-part.part) c.in-None.is c.loop-part.invariant.1) in
-    record { kept = c.loop-part.invariant.0; answer = weakest_told m p None same named; names = named }
+    let all : c.loop-part.part ≡ p.order = omega (arith, c.order-part-end.ensures, c.loop-part-test.false) in
+    let same : m.order ≡ p.order = c.in_ok-check_order.ensures.same in
+    let named = sofar_all m p c.loop-part.part c.loop-part.lowest all c.loop-part.invariant.1 in
+    let told : c.map.result ≡ option_map (λ (loss : Loss). loss.part) c.loop-part.lowest = search rules in
+    let names : Names m p c.map.result = subst (Names m p) (sym told) named in
+    record { kept = c.loop-part.invariant.0; answer = weakest_told m p c.map.result same names; names = names }
