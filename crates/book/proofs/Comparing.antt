@@ -1,5 +1,5 @@
 -- Two books beside each other. Assumes nothing.
-use Rattle.std.proofs.Common.{◌≡◌, ℕ, ◌+◌, ◌-◌, ◌≤◌, max, true, List, length, drop, is_ok, Some, None, Ok, Err, Option, Result, sym, refl, ap, ◌∙◌, ap₂, arith}
+use Rattle.std.proofs.Common.{◌≡◌, ℕ, ◌+◌, ◌-◌, ◌≤◌, max, true, List, length, drop, is_ok, Some, None, Ok, Err, Option, sym, refl, ap, ◌∙◌, ap₂, arith}
 use Rattle.std.proofs.lemmas.List.{drop-drop}
 use Rattle.std.proofs.lemmas.Bool.{both_ways}
 use Rattle.structure.specs.Meanings.{Meaning, Monotone}
@@ -9,14 +9,13 @@ use Rattle.sheet.specs.declared.refusal.Refusal.{Refusal}
 use Rattle.sheet.specs.Figure.{floor}
 use Rattle.sheet.specs.Rows.{allowed}
 use Rattle.sheet.proofs.Weighing.{floor_rounding}
-use Rattle.book.specs.declared.answer.Answer.{Answer}
 use Rattle.book.specs.declared.call.Call.{Call}
+use Rattle.book.specs.declared.call.Weights.{Weights}
 use Rattle.book.specs.declared.figure.Figure.{Figure}
-use Rattle.book.specs.declared.figure.Figures.{Figures}
-use Rattle.book.specs.Answers.{past_at}
+use Rattle.book.specs.Answers.{Answer, past_at}
 use Rattle.book.specs.Comparisons.{Comparison, first_of, last_figures}
 use Rattle.book.specs.Following.{Spared}
-use Rattle.book.specs.Replays.{Whole, room_refused, or_refused}
+use Rattle.book.specs.Replays.{Whole, room_refused}
 use Rattle.book.proofs.Replayed.{not_refused, room_given}
 use Rattle.book.proofs.Standings.{figures_compared}
 
@@ -35,19 +34,9 @@ spared_further n k before after le same =
     let all : slots_needed n + rest ≡ slots_needed k = omega (arith, le) in
     ap (λ j. drop j after) (sym all) ∙ sym (drop-drop rest (slots_needed n) after) ∙ ap (drop rest) same ∙ drop-drop rest (slots_needed n) before ∙ ap (λ j. drop j before) all
 
-module _ {W : Type 0} (weight : Ghosts W) (a b : Meaning) (calls others : List (Call W)) (slots : List W) (given told : List (Answer W)) where
+module _ {W : Type 0} (weight : Ghosts W) (a b : Meaning) (calls others : List (Call (Weights W))) (slots : List W) (given told : List (Answer W)) where
   abbrev pub verdicts : Option Refusal
   verdicts = first_of (room_refused a.order (length calls) (length slots) (length given)) (room_refused b.order (length others) (length slots) (length told))
-
-  -- refused, with nothing written
-  pub comparison_refused : (r : Result Figures Refusal) (why : Refusal) → r ≡ Err why → verdicts ≡ Some why → Comparison weight a b calls others slots slots given given told told r
-  comparison_refused r why is found = record {
-    answer = is ∙ ap (λ v. or_refused v (last_figures weight a b calls others)) (sym found);
-    refused = λ _ _. (refl, (refl, refl));
-    compared = λ figures e. absurd (not_refused figures why (sym e ∙ is));
-    later = (refl, refl);
-    spared = refl;
-  }
 
   -- both lists replayed, one after the other, on the same slots
   pub comparison_made : (slots-between slots-after : List W) (given-after told-after : List (Answer W)) (f g : Figure) → Monotone b → verdicts ≡ None → Whole weight a calls slots slots-between given given-after f → Whole weight b others slots-between slots-after told told-after g → Comparison weight a b calls others slots slots-after given given-after told told-after (Ok (record { first = f; second = g }))

@@ -13,8 +13,7 @@ use Rattle.sheet.specs.SheetFigure.{figure_at, ratings_at, station_at}
 use Rattle.sheet.specs.Rows.{blank_row, counts_as_failed, rating_in_force, unless, with_rating, with_price, with_mark}
 use Rattle.sheet.specs.Sheets.{Page, row_of, set_of, failed_parts, changed, rated, priced, taken_out, put_back, rate_refused, price_refused, withdraw_refused, put_back_refused}
 use Rattle.sheet.proofs.FailedParts.{failed_set}
-use Rattle.book.specs.declared.answer.Answer.{Answer}
-use Rattle.book.specs.Answers.{ruled}
+use Rattle.book.specs.Answers.{Answer, ruled}
 use Rattle.book.specs.Following.{done_or}
 use Rattle.book.specs.Agreement.{PageAgrees, Agreed}
 use Rattle.book.specs.Entries.{Written, altered, repriced}

@@ -26,10 +26,6 @@ none_held units e = absurd (both_ways true (sym (ap is_some e)) refl)
 
 -- ---- what a call makes of a sheet has its order, and is the sheet itself where the call was refused
 
-pub unless_order : (why : Option Refusal) (new old : Page) → new.order ≡ old.order → (unless why new old).1.order ≡ old.order
-unless_order None new old e = e
-unless_order (Some why) new old e = refl
-
 pub altered_kept : (m : Meaning) (why : Option Refusal) (new : Page) (before : Written) → new.order ≡ before.page.order → Kept m before → Kept m (altered (unless why new before.page) before).1
 altered_kept m None new before same kept = record { fits = kept.fits ∙ sym same; standing = refl; figure = λ units e. none_held units e }
 altered_kept m (Some why) new before same kept = kept
@@ -72,15 +68,15 @@ figure_unread m change marks ratings part p =
 
 -- ---- a book just opened
 
-blank_at : (n i : ℕ) → counts_as_failed (get_or (replicate n blank_row) i blank_row) ≡ false
-blank_at zero zero = refl
-blank_at zero (suc i) = refl
-blank_at (suc n) zero = refl
-blank_at (suc n) (suc i) = blank_at n i
+pub blank_read : (n i : ℕ) → get_or (replicate n blank_row) i blank_row ≡ blank_row
+blank_read zero zero = refl
+blank_read zero (suc i) = refl
+blank_read (suc n) zero = refl
+blank_read (suc n) (suc i) = blank_read n i
 
 none_in : (n : ℕ) → set_of (λ _. false) n ≡ 0
 none_in zero = refl
 none_in (suc n) = ap (λ x. x + 0) (none_in n)
 
 pub blank_failed : (n : ℕ) → failed_parts (blank_page n) ≡ 0
-blank_failed n = failed_set n (replicate 16 blank_row) ∙ set_of_same (λ i. counts_as_failed (row_of i (blank_page n))) (λ _. false) n (λ i lt. blank_at 16 i) ∙ none_in n
+blank_failed n = failed_set n (replicate 16 blank_row) ∙ set_of_same (λ i. counts_as_failed (row_of i (blank_page n))) (λ _. false) n (λ i lt. ap counts_as_failed (blank_read 16 i)) ∙ none_in n

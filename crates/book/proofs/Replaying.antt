@@ -9,12 +9,11 @@ use Rattle.sheet.specs.declared.refusal.Refusal.TheVariants.{Part}
 use Rattle.sheet.specs.Figure.{floor}
 use Rattle.sheet.specs.Importance.{importance_at}
 use Rattle.sheet.specs.Sheets.{rated, priced, taken_out, put_back}
-use Rattle.book.specs.declared.answer.Answer.{Answer}
-use Rattle.book.specs.declared.answer.Answer.TheVariants.{Refused, Importance as importance_is}
+use Rattle.book.specs.declared.answer.Reply.TheVariants.{Importance as importance_is}
 use Rattle.book.specs.declared.book.Book.{Book}
 use Rattle.book.specs.declared.figure.Figure.{Figure}
 use Rattle.book.specs.Agreement.{Agreed}
-use Rattle.book.specs.Answers.{ruled, figure_then, weighed_unless, weigh_refused_with}
+use Rattle.book.specs.Answers.{Answer, ruled, figure_then, weighed_unless, weigh_refused_with}
 use Rattle.book.specs.Books.{opened, entered, stands, book_figure, book_importance}
 use Rattle.book.specs.Entries.{altered, repriced}
 use Rattle.book.specs.Following.{Saw, done_or}
@@ -25,12 +24,12 @@ use Rattle.book.proofs.Sameness.{weighed_same}
 
 -- an importance, as it is told
 abbrev pub importance_said : {W : Type 0} → Result ℕ Refusal → Answer W
-importance_said (Ok units) = importance_is units
-importance_said (Err why) = Refused why
+importance_said (Ok units) = Ok (importance_is units)
+importance_said (Err why) = Err why
 
 module _ {m : Meaning} {past : List Deed} (book : Book) (saw : Saw m past book) where
   pub sized : m.order ≤ 16
-  sized = omega (arith, book.table.high, saw.opened.order)
+  sized = omega (arith, book.table.order.high, saw.opened.order)
 
   -- a row call was answered by the history's verdict, and has been seen
   module _ {W : Type 0} (after : Book) (r : Result (Unit {0}) Refusal) (given : Answer W) (same : opened after ≡ opened book) (told : given ≡ done_or r) where
@@ -58,12 +57,12 @@ module _ {m : Meaning} {past : List Deed} (book : Book) (saw : Saw m past book) 
         (subst (Agreed m (AskFigure ∷ past) (opened book)) (ap (λ x. x.1) (sym is)) (follow.figure_agrees saw sized book.entries.sheet.whole)),
   )
 
-  pub book_importance_lem : {W : Type 0} (part : ℕ) → ◌≡◌ {A = Answer W} (importance_said (book_importance (opened book) (entered book) part)) (cond (ltb part m.order) (importance_is (importance_after floor m past part)) (Refused Part))
+  pub book_importance_lem : {W : Type 0} (part : ℕ) → ◌≡◌ {A = Answer W} (importance_said (book_importance (opened book) (entered book) part)) (cond (ltb part m.order) (Ok (importance_is (importance_after floor m past part))) (Err Part))
   book_importance_lem {W} part =
       ap (λ n. importance_said {W = W} (cond (ltb part n) (Ok (importance_at (opened book) (entered book).page part)) (Err Part))) saw.opened.order ∙ by_test (ltb part m.order) refl
     where
-      by_test : (b : Bool) → ltb part m.order ≡ b → ◌≡◌ {A = Answer W} (importance_said (cond b (Ok (importance_at (opened book) (entered book).page part)) (Err Part))) (cond b (importance_is (importance_after floor m past part)) (Refused Part))
-      by_test true e = ap importance_is (follow.importance_said_lem saw sized book.entries.sheet.whole part (ltb-true part m.order e))
+      by_test : (b : Bool) → ltb part m.order ≡ b → ◌≡◌ {A = Answer W} (importance_said (cond b (Ok (importance_at (opened book) (entered book).page part)) (Err Part))) (cond b (Ok (importance_is (importance_after floor m past part))) (Err Part))
+      by_test true e = ap (λ units. Ok (importance_is units)) (follow.importance_said_lem saw sized book.entries.sheet.whole part (ltb-true part m.order e))
       by_test false e = refl
 
   -- a sum is over the states in which the station as it stands works

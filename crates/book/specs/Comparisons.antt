@@ -5,15 +5,15 @@ use Rattle.weight.specs.declared.Weight.{Ghosts}
 use Rattle.analysis.specs.Weighed.{slots_needed}
 use Rattle.sheet.specs.declared.refusal.Refusal.{Refusal}
 use Rattle.sheet.specs.Figure.{WorksWherever}
-use Rattle.book.specs.declared.answer.Answer.{Answer}
 use Rattle.book.specs.declared.call.Call.{Call}
+use Rattle.book.specs.declared.call.Weights.{Weights}
 use Rattle.book.specs.declared.figure.Figures.{Figures}
-use Rattle.book.specs.Answers.{past_at, figure_then}
+use Rattle.book.specs.Answers.{Answer, past_at, figure_then}
 use Rattle.book.specs.History.{rating}
 use Rattle.book.specs.Replays.{Answered, last_figure, room_refused, or_refused}
 use Rattle.book.specs.Standing.{standing}
 
-module _ {W : Type 0} (weight : Ghosts W) (a b : Meaning) (calls others : List (Call W)) where
+module _ {W : Type 0} (weight : Ghosts W) (a b : Meaning) (calls others : List (Call (Weights W))) where
   -- after i calls on the first book and j on the second: where the second station as it stands works in every state in which the first does,
   -- and no part is rated lower there, the second figure is not below the first
   abbrev pub NoLowerFigure : ℕ → ℕ → Type 0
@@ -37,7 +37,7 @@ first_of None second = second
 first_of (Some why) second = Some why
 
 -- a list replayed on each of two new books: the answers in the first places of each, and both figures; or refused, with nothing written
-pub record Comparison {W : Type 0} (weight : Ghosts W) (a b : Meaning) (calls others : List (Call W)) (slots slots-after : List W) (given given-after told told-after : List (Answer W)) (r : Result Figures Refusal) : Type 0 where
+pub record Comparison {W : Type 0} (weight : Ghosts W) (a b : Meaning) (calls others : List (Call (Weights W))) (slots slots-after : List W) (given given-after told told-after : List (Answer W)) (r : Result Figures Refusal) : Type 0 where
   pub answer : r ≡ or_refused (first_of (room_refused a.order (length calls) (length slots) (length given)) (room_refused b.order (length others) (length slots) (length told))) (last_figures weight a b calls others)
   pub refused : (why : Refusal) → r ≡ Err why → (slots-after ≡ slots) × ((given-after ≡ given) × (told-after ≡ told))
   pub compared : (figures : Figures) → r ≡ Ok figures → Compared weight a b calls others given-after told-after

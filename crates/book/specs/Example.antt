@@ -5,6 +5,7 @@ use Rattle.structure.specs.Meanings.{Meaning}
 use Rattle.sheet.specs.Figure.{WorksWherever}
 use Rattle.book.specs.declared.call.Call.{Call}
 use Rattle.book.specs.declared.call.Call.TheVariants.{Rate, Withdraw, Figure}
+use Rattle.book.specs.declared.call.Weights.{Weights}
 use Rattle.book.specs.Answers.{past_at, figure_then}
 use Rattle.book.specs.History.{rating}
 use Rattle.book.specs.Standing.{standing}
@@ -13,14 +14,14 @@ use Rattle.book.specs.Standing.{standing}
 abbrev pub both : Meaning
 both = k_out_of_n 2 2
 
-abbrev pub both_calls : List (Call (Unit {0}))
+abbrev pub both_calls : List (Call (Weights (Unit {0})))
 both_calls = Rate 0 32768 ∷ Rate 1 32768 ∷ Figure ∷ []
 
 -- the second needs either; part 1 is rated higher, and part 0 is withdrawn
 abbrev pub either : Meaning
 either = k_out_of_n 1 2
 
-abbrev pub either_calls : List (Call (Unit {0}))
+abbrev pub either_calls : List (Call (Weights (Unit {0})))
 either_calls = Rate 0 32768 ∷ Rate 1 40000 ∷ Withdraw 0 ∷ []
 
 -- the second station as it stands works wherever the first does, no part is rated lower there, and the figures are what the rule makes them

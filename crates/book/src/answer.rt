@@ -2,11 +2,12 @@
 use crate::figure::Figure;
 use sheet::refusal::Refusal;
 
+pub type Answer<W> = Result<Reply<W>, Refusal>;
+
 #[derive(Clone, Copy)]
-pub enum Answer<W> {
+pub enum Reply<W> {
     Done,
     Figure(Figure),
     Importance(u64),
     Weighed(W),
-    Refused(Refusal),
 }

@@ -15,7 +15,7 @@ pub mod station;
 pub struct Book {
     table: Table,
     entries: Entries,
-    ghost fits: { table.order ≡ entries.sheet.order },
+    ghost fits: { table.order.parts ≡ entries.sheet.order.parts },
     ghost standing: { entries.failed ≡ failed_parts (page entries.sheet) },
-    ghost figure: { (units : ℕ) → entries.held ≡ Some units → units ≡ figure_at (tabled table.order table.words) (page entries.sheet) },
+    ghost figure: { (units : ℕ) → entries.held ≡ Some units → units ≡ figure_at (tabled table.order.parts table.words) (page entries.sheet) },
 }

@@ -7,4 +7,5 @@ pub mod call;
 pub mod compare;
 mod entries;
 pub mod figure;
+pub mod plan;
 pub mod replay;

@@ -1,89 +1,60 @@
 // Replays a list of calls, with all their arguments, on a book just opened. Slots that a weigh brings beyond those lent here change nothing.
-ghost use Rattle.std.specs.Prelude.{◌≡◌, ◌<◌, ◌≤◌, [], length, drop, None, slice_set};
-ghost use Rattle.structure.specs.Meanings.{Meaning};
-ghost use Rattle.analysis.specs.Weighed.{slots_needed, weighed};
+ghost use Rattle.std.specs.Prelude.{◌≡◌, ◌≤◌, length, None};
+ghost use Rattle.analysis.specs.Weighed.{slots_needed};
 ghost use Rattle.sheet.specs.Rows.{allowed};
-ghost use Rattle.book.specs.Answers.{weighed_unless, weigh_refused_with};
-ghost use Rattle.book.specs.Books.{opened, stands};
-ghost use Rattle.book.specs.Following.{Follows, Played, Saw, Spared, done_or};
+ghost use Rattle.book.specs.Books.{opened};
+ghost use Rattle.book.specs.Following.{Follows, Spared, done_or};
 ghost use Rattle.book.specs.Replays.{Replayed, Whole, room_refused};
 
-use crate::answer::Answer;
+use crate::answer::{Answer, Reply};
 use crate::book::Book;
-use crate::call::Call;
+use crate::call::{Call, Weights};
 use crate::figure::Figure;
+use crate::plan::Plan;
 use analysis::refusal::Refusal as AnalysisRefusal;
+use analysis::weigh::slots_needed;
 use sheet::refusal::Refusal;
+use structure::order::Order;
 use structure::structure::Structure;
 use weight::Weight;
 
-// One place for each answer, and as many slots as weighing the structure wants, whatever they hold; the figure at the end is answered besides.
-pub fn replay<S: Structure, W: Weight>(
-    structure: &S,
-    calls: &[Call<W>],
-    slots: &mut [W],
-    answers: &mut [Answer<W>],
-) -> Result<Figure, Refusal>
-    ensures { Replayed W.Weight (S.Structure.meaning structure.now) calls.now slots.old slots.new answers.old answers.new result }
-{
-    check_room(structure.order(), calls.len(), slots.len(), answers.len())?;
-    Ok(replay_all(structure, calls, slots, answers))
-}
-
-// Where there is room for it.
-pub(crate) fn replay_all<S: Structure, W: Weight>(
-    structure: &S,
-    calls: &[Call<W>],
-    slots: &mut [W],
-    answers: &mut [Answer<W>],
-) -> Figure
-    requires { room_refused (S.Structure.meaning structure.now).order (length calls.now) (length slots.old) (length answers.old) ≡ None }
-    ensures { Whole W.Weight (S.Structure.meaning structure.now) calls.now slots.old slots.new answers.old answers.new result }
-{
-    let mut book = Book::open(structure);
-    play(&mut book, calls, slots, answers);
-    book.figure()
-}
-
-pub(crate) fn check_room(
-    order: usize,
-    calls: usize,
-    slots: usize,
-    places: usize,
-) -> Result<(), Refusal>
-    requires { order ≤ 16 }
-    ensures { result ≡ allowed (room_refused order calls slots places) }
-{
-    if slots < 3 * order + 3 {
-        return Err(AnalysisRefusal::TooFewSlots.into());
+impl<S: Structure, W: Weight> Plan<'_, '_, S, W> {
+    // One place for each answer, and as many slots as weighing the structure wants, whatever they hold; the figure at the end is answered besides.
+    pub fn replay(&self, slots: &mut [W], answers: &mut [Answer<W>]) -> Result<Figure, Refusal>
+        ensures { Replayed W.Weight (S.Structure.meaning self.now.structure.now) self.now.calls.now slots.old slots.new answers.old answers.new result }
+    {
+        self.check_room(slots.len(), answers.len())?;
+        Ok(self.replay_all(slots, answers))
     }
-    if places < calls {
-        return Err(AnalysisRefusal::TooFewPlaces { needed: calls }.into());
-    }
-    Ok(())
-}
 
-fn play<W: Weight>(book: &mut Book, calls: &[Call<W>], slots: &mut [W], answers: &mut [Answer<W>])
-    requires places { length calls.now ≤ length answers.old }
-    requires slots { slots_needed (opened book.old).order ≤ length slots.old }
-    ensures played { (m : Meaning) → Saw m [] book.old → Played W.Weight m calls.now (length calls.now) answers.new book.new }
-    ensures later { drop (length calls.now) answers.new ≡ drop (length calls.now) answers.old }
-    ensures spared { Spared (opened book.old).order slots.old slots.new }
-{
-    for place in 0..calls.len() {
-        let given = answer(book, &calls[place], slots);
-        put(answers, place, given);
+    // Where there is room for it.
+    pub(crate) fn replay_all(&self, slots: &mut [W], answers: &mut [Answer<W>]) -> Figure
+        requires { room_refused (S.Structure.meaning self.now.structure.now).order (length self.now.calls.now) (length slots.old) (length answers.old) ≡ None }
+        ensures { Whole W.Weight (S.Structure.meaning self.now.structure.now) self.now.calls.now slots.old slots.new answers.old answers.new result }
+    {
+        let mut book = Book::open(self.structure);
+        // Through a zip with the places, what they then hold would not be known.
+        for (place, call) in self.calls.iter().enumerate() {
+            answers[place] = answer(&mut book, call, slots);
+        }
+        book.figure()
+    }
+
+    pub(crate) fn check_room(&self, slots: usize, places: usize) -> Result<(), Refusal>
+        ensures { result ≡ allowed (room_refused (S.Structure.meaning self.now.structure.now).order (length self.now.calls.now) slots places) }
+    {
+        if slots < slots_needed(Order::of(self.structure)) {
+            return Err(AnalysisRefusal::TooFewSlots.into());
+        }
+        let needed = self.calls.len();
+        if places < needed {
+            return Err(AnalysisRefusal::TooFewPlaces { needed }.into());
+        }
+        Ok(())
     }
 }
 
-fn put<W: Weight>(answers: &mut [Answer<W>], place: usize, given: Answer<W>)
-    requires { place < length answers.old }
-    ensures { answers.new ≡ slice_set answers.old place given }
-{
-    answers[place] = given;
-}
-
-fn answer<W: Weight>(book: &mut Book, call: &Call<W>, slots: &mut [W]) -> Answer<W>
+fn answer<W: Weight>(book: &mut Book, call: &Call<Weights<W>>, slots: &mut [W]) -> Answer<W>
     requires { slots_needed (opened book.old).order ≤ length slots.old }
     ensures opened { opened book.new ≡ opened book.old }
     ensures spared { Spared (opened book.old).order slots.old slots.new }
@@ -94,36 +65,18 @@ fn answer<W: Weight>(book: &mut Book, call: &Call<W>, slots: &mut [W]) -> Answer
         Call::Price { part, price } => done(book.price(*part, *price)),
         Call::Withdraw { part } => done(book.withdraw(*part)),
         Call::PutBack { part } => done(book.put_back(*part)),
-        Call::Figure => Answer::Figure(book.figure()),
-        Call::Importance { part } => match book.importance(*part) {
-            Ok(units) => Answer::Importance(units),
-            Err(why) => Answer::Refused(why),
-        },
-        Call::Weigh {
-            up,
-            down,
-            slots: lent,
-        } => weigh(book, up, down, *lent, slots),
+        Call::Figure => Ok(Reply::Figure(book.figure())),
+        Call::Importance { part } => book.importance(*part).map(|units| Reply::Importance(units)),
+        Call::Weigh(weights) => {
+            let lent = weights.slots.min(slots.len());
+            book.weigh(weights.up, weights.down, &mut slots[..lent])?;
+            Ok(Reply::Weighed(slots[0]))
+        }
     }
 }
 
 fn done<W: Weight>(res: Result<(), Refusal>) -> Answer<W>
     ensures { result ≡ done_or res }
 {
-    match res {
-        Ok(()) => Answer::Done,
-        Err(why) => Answer::Refused(why),
-    }
-}
-
-fn weigh<W: Weight>(book: &Book, up: &[W], down: &[W], lent: usize, slots: &mut [W]) -> Answer<W>
-    requires { slots_needed (opened book.now).order ≤ length slots.old }
-    ensures spared { Spared (opened book.now).order slots.old slots.new }
-    ensures answer { result ≡ weighed_unless (weigh_refused_with (stands book.now).order up.now down.now lent) (weighed W.Weight (stands book.now) up.now down.now) }
-{
-    let lent = lent.min(slots.len());
-    match book.weigh(up, down, &mut slots[0..lent]) {
-        Ok(()) => Answer::Weighed(slots[0]),
-        Err(why) => Answer::Refused(why.into()),
-    }
+    res.map(|()| Reply::Done)
 }

@@ -1,5 +1,6 @@
 -- Sets of a list drawn one after another. Assumes nothing.
-use Rattle.std.proofs.Common.{◌≡◌, ℕ, ◌+◌, ◌<◌, ◌≤◌, List, [], ◌∷◌, ◌++◌, length, get_or, drop, Some, None, Ok, Err, Option, Result, sym, refl, ap, ◌∙◌, append-nil, arith}
+use Rattle.std.proofs.Common.{◌≡◌, ℕ, ◌+◌, ◌<◌, ◌≤◌, List, [], ◌∷◌, ◌++◌, length, get_or, drop, true, is_ok, Some, None, Ok, Err, Option, Result, sym, refl, ap, ◌∙◌, append-nil}
+use Rattle.std.proofs.lemmas.Bool.{both_ways}
 use Rattle.std.proofs.lemmas.List.{drop_all, drop_more}
 use Rattle.structure.specs.declared.refusal.Refusal.{Refusal}
 use Rattle.structure.specs.Drawings.{Drawing, set_refused, order_refused, added, started, unless}
@@ -20,17 +21,11 @@ same_drawing d p q j = record { order = p j; sets = q j }
 -- what a call that was taken left
 taken : (o : Option Refusal) (new old left : Drawing) (u : Unit {0}) → ◌≡◌ {A = Answer} (Ok u, left) (unless o new old) → (o ≡ None) × (left ≡ new)
 taken None new old left u e = (refl, ap (λ (a : Answer). a.1) e)
-taken (Some why) new old left u e = let bad : ◌≡◌ {A = Result (Unit {0}) Refusal} (Ok u) (Err why) = ap (λ (a : Answer). a.0) e in absurd (never bad)
-  where
-    never : ◌≡◌ {A = Result (Unit {0}) Refusal} (Ok u) (Err why) → ⊥
-    never p = let z : ◌≡◌ {A = ℕ} 0 1 = cc in omega arith
+taken (Some why) new old left u e = absurd (both_ways true (ap (λ (a : Answer). is_ok a.0) e) refl)
 
 -- why a call was refused
 refused : (o : Option Refusal) (new old left : Drawing) (why : Refusal) → ◌≡◌ {A = Answer} (Err why, left) (unless o new old) → o ≡ Some why
-refused None new old left why e = let bad : ◌≡◌ {A = Result (Unit {0}) Refusal} (Err why) (Ok tt) = ap (λ (a : Answer). a.0) e in absurd (never bad)
-  where
-    never : ◌≡◌ {A = Result (Unit {0}) Refusal} (Err why) (Ok tt) → ⊥
-    never p = let z : ◌≡◌ {A = ℕ} 0 1 = cc in omega arith
+refused None new old left why e = absurd (both_ways true (sym (ap (λ (a : Answer). is_ok a.0) e)) refl)
 refused (Some other) new old left why e = let same : ◌≡◌ {A = Result (Unit {0}) Refusal} (Err why) (Err other) = ap (λ (a : Answer). a.0) e in cc
 
 -- where the order is taken, the sets alone are refused

@@ -1,4 +1,4 @@
-// A path list drawn from its sets.
+// A path list drawn from its sets. A minimal list is drawn alike from a listing: one function for both would take both as an iterator, and be as long.
 ghost use Rattle.known.specs.Drawing.{PathsDrawn};
 
 use structure::path_list::PathList;

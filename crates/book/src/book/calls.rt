@@ -2,7 +2,7 @@
 ghost use Rattle.std.specs.Prelude.{◌≡◌};
 ghost use Rattle.structure.specs.Meanings.{Same};
 ghost use Rattle.sheet.specs.Sheets.{rated, priced, taken_out, put_back};
-ghost use Rattle.book.specs.Books.{opened, entered, book_figure};
+ghost use Rattle.book.specs.Books.{Called, opened, entered, book_figure};
 ghost use Rattle.book.specs.Entries.{blank, altered, repriced};
 
 use super::Book;
@@ -32,36 +32,31 @@ impl Book {
     }
 
     pub fn rate(&mut self, part: usize, rating: u32) -> Result<(), Refusal>
-        ensures opened { opened self.new ≡ opened self.old }
-        ensures entered { (result, entered self.new) ≡ altered (rated part rating (entered self.old).page) (entered self.old) }
+        ensures { Called (λ w. altered (rated part rating w.page) w) self.old self.new result }
     {
         self.entries.rate(part, rating)
     }
 
     pub fn price(&mut self, part: usize, price: u32) -> Result<(), Refusal>
-        ensures opened { opened self.new ≡ opened self.old }
-        ensures entered { (result, entered self.new) ≡ repriced (priced part price (entered self.old).page) (entered self.old) }
+        ensures { Called (λ w. repriced (priced part price w.page) w) self.old self.new result }
     {
         self.entries.price(part, price)
     }
 
     pub fn withdraw(&mut self, part: usize) -> Result<(), Refusal>
-        ensures opened { opened self.new ≡ opened self.old }
-        ensures entered { (result, entered self.new) ≡ altered (taken_out part (entered self.old).page) (entered self.old) }
+        ensures { Called (λ w. altered (taken_out part w.page) w) self.old self.new result }
     {
         self.entries.withdraw(part)
     }
 
     pub fn put_back(&mut self, part: usize) -> Result<(), Refusal>
-        ensures opened { opened self.new ≡ opened self.old }
-        ensures entered { (result, entered self.new) ≡ altered (put_back part (entered self.old).page) (entered self.old) }
+        ensures { Called (λ w. altered (put_back part w.page) w) self.old self.new result }
     {
         self.entries.put_back(part)
     }
 
     pub fn figure(&mut self) -> Figure
-        ensures opened { opened self.new ≡ opened self.old }
-        ensures entered { (result, entered self.new) ≡ book_figure (opened self.old) (entered self.old) }
+        ensures { Called (book_figure (opened self.old)) self.old self.new result }
     {
         if let Some(units) = self.entries.held {
             return Figure { units, held: true };

@@ -36,9 +36,6 @@ impl Book {
         ensures names { Names (opened self.now) (entered self.now).page result }
     {
         let mut sheet = self.entries.sheet;
-        match weakest(&self.table, &mut sheet) {
-            Ok(part) => part,
-            Err(_) => None,
-        }
+        weakest(&self.table, &mut sheet).unwrap_or(None)
     }
 }

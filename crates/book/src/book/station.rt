@@ -2,15 +2,16 @@
 ghost use Rattle.book.specs.Books.{stands, opened};
 ghost use Rattle.structure.specs.LayersLemmas.{hold_monotone};
 ghost use Rattle.sheet.specs.Sheets.{page, failed_parts};
-ghost use Rattle.std.proofs.Common.{rules, arith};
+ghost use Rattle.std.proofs.Common.{rules};
 
 use super::Book;
+use structure::hold::Hold;
 use structure::structure::Structure;
 
 impl Structure for Book {
     ghost meaning = { λ book. stands book };
 
-    ghost sized = { first_of (Prim.search rules, Prim.grind (arith, Self.row.coded.inj)) };
+    ghost sized = { Prim.search rules };
 
     ghost monotone = { λ s. hold_monotone (failed_parts (page s.entries.sheet)) (opened s) s.table.monotone };
 
@@ -19,7 +20,6 @@ impl Structure for Book {
     }
 
     fn works(&self, state: u32) -> bool {
-        self.table
-            .works(state - (state & self.entries.failed as u32))
+        Hold::new(&self.table, self.entries.failed).works(state)
     }
 }
