@@ -2,28 +2,14 @@
 use sheet::refusal::Refusal as SheetRefusal;
 use std::io;
 use structure::refusal::Refusal as StructureRefusal;
+use thiserror::Error;
 
-#[derive(Debug, Drop)]
+#[derive(Debug, Drop, Error)]
 pub enum Fault {
-    Structure(StructureRefusal),
-    Sheet(SheetRefusal),
-    Print(io::Error),
-}
-
-impl From<StructureRefusal> for Fault {
-    fn from(why: StructureRefusal) -> Self {
-        Fault::Structure(why)
-    }
-}
-
-impl From<SheetRefusal> for Fault {
-    fn from(why: SheetRefusal) -> Self {
-        Fault::Sheet(why)
-    }
-}
-
-impl From<io::Error> for Fault {
-    fn from(why: io::Error) -> Self {
-        Fault::Print(why)
-    }
+    #[error("a station: {0:?}")]
+    Structure(#[from] StructureRefusal),
+    #[error("a sheet or a book: {0:?}")]
+    Sheet(#[from] SheetRefusal),
+    #[error("printing: {0}")]
+    Print(#[from] io::Error),
 }

@@ -6,17 +6,16 @@ mod plans;
 mod possible;
 mod report;
 
-use book::answer::Answer;
-use book::call::Call;
+use book::answer::{Answer, Reply};
+use book::call::{Call, Weights};
 use book::compare::compare;
 use book::figure::Figures;
+use book::plan::Plan;
 use fault::Fault;
-use plans::{one_chain, two_chains};
+use plans::{PARTS, one_chain, two_chains};
 use possible::Possible;
 use report::{print_answers, print_figure};
 use weight::Weight;
-
-const PARTS: usize = 4;
 
 const CALLS: usize = 15;
 
@@ -25,8 +24,8 @@ const SLOTS: usize = 3 * PARTS + 3;
 
 fn main(rt: HostRuntime) -> Result<(), Fault> {
     let yes = [Possible::one(); PARTS];
-    let mut given = [Answer::Done; CALLS];
-    let mut told = [Answer::Done; CALLS];
+    let mut given = [Ok(Reply::Done); CALLS];
+    let mut told = [Ok(Reply::Done); CALLS];
     let figures = compare_plans(&yes, &mut given, &mut told)?;
     print_answers(&rt, "one chain", &given)?;
     print_figure(&rt, "one chain at the end", figures.first)?;
@@ -41,6 +40,15 @@ fn compare_plans<'a>(
     given: &mut [Answer<Possible>],
     told: &mut [Answer<Possible>],
 ) -> Result<Figures, Fault> {
+    let weights = Weights {
+        up: yes,
+        down: yes,
+        slots: SLOTS,
+    };
+    let few = Weights {
+        slots: PARTS,
+        ..weights
+    };
     let calls = [
         Call::Rate {
             part: 0,
@@ -69,28 +77,22 @@ fn compare_plans<'a>(
         Call::Figure,
         Call::Figure,
         Call::Importance { part: 1 },
-        Call::Weigh {
-            up: yes,
-            down: yes,
-            slots: SLOTS,
-        },
+        Call::Weigh(weights),
         Call::Withdraw { part: 1 },
         Call::Withdraw { part: 1 },
         Call::Figure,
-        Call::Weigh {
-            up: yes,
-            down: yes,
-            slots: SLOTS,
-        },
-        Call::Weigh {
-            up: yes,
-            down: yes,
-            slots: PARTS,
-        },
+        Call::Weigh(weights),
+        Call::Weigh(few),
     ];
     let mut slots = [Possible::zero(); SLOTS];
-    let one = one_chain()?;
-    let two = two_chains()?;
-    let figures = compare(&one, &calls, given, &two, &calls, told, &mut slots)?;
+    let one = Plan {
+        structure: &one_chain()?,
+        calls: &calls,
+    };
+    let two = Plan {
+        structure: &two_chains()?,
+        calls: &calls,
+    };
+    let figures = compare(&one, given, &two, told, &mut slots)?;
     Ok(figures)
 }

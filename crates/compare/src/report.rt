@@ -1,35 +1,45 @@
 // A line for each answer.
 use crate::possible::Possible;
-use book::answer::Answer;
+use book::answer::{Answer, Reply};
 use book::figure::Figure;
-use std::io;
+use std::fmt::Display;
+use std::{fmt, io};
 
 pub fn print_answers(rt: &HostRuntime, plan: &str, answers: &[Answer<Possible>]) -> io::Result<()> {
     for answer in answers {
-        print_answer(rt, plan, answer)?;
+        println!(rt; "{plan}: {}", Told(*answer))?;
     }
     Ok(())
 }
 
-fn print_answer(rt: &HostRuntime, plan: &str, answer: &Answer<Possible>) -> io::Result<()> {
-    match answer {
-        Answer::Done => println!(rt; "{plan}: done"),
-        Answer::Figure(figure) => print_figure(rt, plan, *figure),
-        Answer::Importance(units) => println!(rt; "{plan}: importance {units}"),
-        Answer::Weighed(Possible { yes: true }) => println!(rt; "{plan}: works in some state"),
-        Answer::Weighed(Possible { yes: false }) => println!(rt; "{plan}: works in no state"),
-        Answer::Refused(why) => {
-            let number = why.number();
-            println!(rt; "{plan}: refused {number}")
+pub fn print_figure(rt: &HostRuntime, plan: &str, figure: Figure) -> io::Result<()> {
+    println!(rt; "{plan}: {}", Told(figure))
+}
+
+// As a line tells it.
+#[derive(Drop)]
+struct Told<T>(T);
+
+impl Display for Told<Answer<Possible>> {
+    fn fmt<W: fmt::Write>(&self, f: &mut fmt::Formatter<W>) -> fmt::Result {
+        match self.0 {
+            Ok(Reply::Done) => write!(f, "done"),
+            Ok(Reply::Figure(figure)) => write!(f, "{}", Told(figure)),
+            Ok(Reply::Importance(units)) => write!(f, "importance {units}"),
+            Ok(Reply::Weighed(Possible { yes: true })) => write!(f, "works in some state"),
+            Ok(Reply::Weighed(Possible { yes: false })) => write!(f, "works in no state"),
+            Err(why) => write!(f, "refused {}", why.number()),
         }
     }
 }
 
-pub fn print_figure(rt: &HostRuntime, plan: &str, figure: Figure) -> io::Result<()> {
-    let units = figure.units;
-    if figure.held {
-        println!(rt; "{plan}: figure {units}, held")
-    } else {
-        println!(rt; "{plan}: figure {units}")
+impl Display for Told<Figure> {
+    fn fmt<W: fmt::Write>(&self, f: &mut fmt::Formatter<W>) -> fmt::Result {
+        let Told(Figure { units, held }) = self;
+        if *held {
+            write!(f, "figure {units}, held")
+        } else {
+            write!(f, "figure {units}")
+        }
     }
 }

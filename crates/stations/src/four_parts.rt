@@ -1,6 +1,6 @@
 // Every coherent station of four parts, all of them relevant, up to the numbering of the parts.
 use crate::fault::Fault;
-use crate::row::print_row;
+use crate::row::Row;
 use analysis::minimal_sets::minimal_sets;
 use analysis::role::Role;
 use analysis::signature::signature;
@@ -8,11 +8,13 @@ use known::draw::draw_paths;
 use structure::dual::Dual;
 use structure::path_list::PathList;
 
+const PARTS: usize = 4;
+
 // As many minimal sets as four parts can have.
 const SETS: usize = 6;
 
-// As many entries as a signature of four parts has.
-const NUMBERS: usize = 6;
+// As many entries as their signature has.
+const NUMBERS: usize = PARTS + 2;
 
 // Their minimal paths, from all parts in a row to all side by side.
 static PATHS: [&[u16]; 20] = [
@@ -40,28 +42,23 @@ static PATHS: [&[u16]; 20] = [
 
 pub fn print_all(rt: &HostRuntime) -> Result<(), Fault> {
     for paths in &PATHS {
-        print_station(rt, draw_paths(4, paths)?)?;
+        print_station(rt, &draw_paths(PARTS, paths)?)?;
     }
     Ok(())
 }
 
 // Its minimal paths, minimal cuts and signature, and whether its minimal paths are its dual's minimal cuts.
-fn print_station(rt: &HostRuntime, station: PathList) -> Result<(), Fault> {
-    let mut paths = [0; SETS];
-    let mut cuts = [0; SETS];
-    let mut numbers = [0; NUMBERS];
-    let count = minimal_sets(&station, Role::Path, &mut paths)?;
-    print_row(rt, "paths", &paths, count)?;
-    let cut_count = minimal_sets(&station, Role::Cut, &mut cuts)?;
-    print_row(rt, ", cuts", &cuts, cut_count)?;
-    let entries = signature(&station, &mut numbers)?;
-    print_row(rt, ", signature", &numbers, entries)?;
-    let mut dual_cuts = [0; SETS];
-    let dual_count = minimal_sets(&Dual::new(station), Role::Cut, &mut dual_cuts)?;
-    if count == dual_count && paths == dual_cuts {
-        println!(rt; ", dual agrees")?;
+fn print_station(rt: &HostRuntime, station: &PathList) -> Result<(), Fault> {
+    let paths: Row<u16, SETS> = Row::of(|places| minimal_sets(station, Role::Path, places))?;
+    let cuts: Row<u16, SETS> = Row::of(|places| minimal_sets(station, Role::Cut, places))?;
+    let signature: Row<u64, NUMBERS> = Row::of(|places| signature(station, places))?;
+    let dual = Dual::new(station);
+    let dual_cuts: Row<u16, SETS> = Row::of(|places| minimal_sets(&dual, Role::Cut, places))?;
+    let verdict = if paths == dual_cuts {
+        "agrees"
     } else {
-        println!(rt; ", dual differs")?;
-    }
+        "differs"
+    };
+    println!(rt; "paths{paths}, cuts{cuts}, signature{signature}, dual {verdict}")?;
     Ok(())
 }

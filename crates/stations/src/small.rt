@@ -1,6 +1,6 @@
 // The small stations whose figures are known, a line for each.
 use crate::fault::Fault;
-use crate::row::print_row;
+use crate::row::Row;
 use analysis::minimal_sets::minimal_sets;
 use analysis::role::Role;
 use analysis::signature::signature;
@@ -29,9 +29,11 @@ pub fn print_all(rt: &HostRuntime) -> Result<(), Fault> {
 
 fn print_bridge(rt: &HostRuntime) -> Result<(), Fault> {
     let bridge = bridge()?;
-    print_tally(rt, "bridge: path numbers", &bridge)?;
+    let tally: Row<u64, NUMBERS> = Row::of(|places| tally(&bridge, places))?;
+    let cuts: Row<u16, SETS> = Row::of(|places| minimal_sets(&bridge, Role::Cut, places))?;
+    println!(rt; "bridge: path numbers{tally}")?;
     print_signature(rt, "bridge: signature", &bridge)?;
-    print_cuts(rt, "bridge: minimal cuts", &bridge)?;
+    println!(rt; "bridge: minimal cuts{cuts}")?;
     print_swings(rt, "bridge: swings", &bridge)?;
     print_figure(rt, "bridge, all rated 32768: units", &bridge, 32768)?;
     print_cheapest(
@@ -61,32 +63,15 @@ fn print_constant(rt: &HostRuntime) -> Result<(), Fault> {
     print_cheapest(rt, "no cut, order 2: cheapest", &no_cut, &[3, 4])
 }
 
-fn print_tally<S: Structure>(rt: &HostRuntime, word: &str, station: &S) -> Result<(), Fault> {
-    let mut numbers = [0; NUMBERS];
-    let count = tally(station, &mut numbers)?;
-    print_row(rt, word, &numbers, count)?;
-    println!(rt; "")?;
-    Ok(())
-}
-
 fn print_signature<S: Structure>(rt: &HostRuntime, word: &str, station: &S) -> Result<(), Fault> {
-    let mut numbers = [0; NUMBERS];
-    let count = signature(station, &mut numbers)?;
-    print_row(rt, word, &numbers, count)?;
-    println!(rt; "")?;
-    Ok(())
-}
-
-fn print_cuts<S: Structure>(rt: &HostRuntime, word: &str, station: &S) -> Result<(), Fault> {
-    let mut sets = [0; SETS];
-    let count = minimal_sets(station, Role::Cut, &mut sets)?;
-    print_row(rt, word, &sets, count)?;
-    println!(rt; "")?;
+    let signature: Row<u64, NUMBERS> = Row::of(|places| signature(station, places))?;
+    println!(rt; "{word}{signature}")?;
     Ok(())
 }
 
 fn print_swings<S: Structure>(rt: &HostRuntime, word: &str, station: &S) -> Result<(), Fault> {
     print!(rt; "{word}")?;
+    // Here and below the part is what is asked about, and no place of a list.
     for part in 0..station.order() {
         let states = swing(station, part)?;
         print!(rt; " {states}")?;
@@ -102,8 +87,7 @@ fn print_figure<S: Structure>(
     station: &S,
     rating: u32,
 ) -> Result<(), Fault> {
-    let mut sheet = Sheet::new();
-    sheet.start(station.order())?;
+    let mut sheet = Sheet::of(station);
     for part in 0..station.order() {
         sheet.rate(part, rating)?;
     }
@@ -119,10 +103,9 @@ fn print_cheapest<S: Structure>(
     station: &S,
     prices: &[u32],
 ) -> Result<(), Fault> {
-    let mut sheet = Sheet::new();
-    sheet.start(station.order())?;
-    for (part, price) in prices.iter().enumerate() {
-        sheet.price(part, *price)?;
+    let mut sheet = Sheet::of(station);
+    for (part, &price) in prices.iter().enumerate() {
+        sheet.price(part, price)?;
     }
     match cheapest(station, &sheet)? {
         Some(total) => println!(rt; "{word} {total}")?,
