@@ -1,9 +1,9 @@
 #![tactic(auto)]
 
-// Examples that are run: of reading and printing, of whole scripts, and of structures and their minimal sets.
+// Examples that are run: of reading and printing, and of whole scripts on a book.
+#[cfg(test)]
+mod page;
 #[cfg(test)]
 mod reading;
 #[cfg(test)]
 mod scripts;
-#[cfg(test)]
-mod stations;

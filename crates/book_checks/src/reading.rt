@@ -1,7 +1,7 @@
-// Each command, each fault and each line once.
+// Each command and each fault once, and the line of a figure.
 use book_script::command::Command;
 use book_script::fault::Malformed;
-use book_script::line::{CutsLine, FaultLine, FigureLine};
+use book_script::line::{Figure, FigureLine};
 use book_script::reader::Reader;
 use std::test::Fail;
 
@@ -29,7 +29,7 @@ fn reads_each_command(rt: HostRuntime) -> Result<(), Fail> {
     assert_eq!(rt; reader.next()?, Some(Command::PutBack { part: 6 }));
     assert_eq!(rt; reader.next()?, Some(Command::Figure));
     assert_eq!(rt; reader.next()?, Some(Command::Cuts));
-    assert_eq!(rt; reader.next()?, None);
+    assert_eq!(rt; reader.next::<Command>()?, None);
     assert_eq!(rt; reader.place(), 22);
     Ok(())
 }
@@ -38,41 +38,21 @@ fn reads_each_command(rt: HostRuntime) -> Result<(), Fail> {
 fn stays_at_a_fault(rt: HostRuntime) -> Result<(), Fail> {
     let mut reader = Reader::new(b"Oo")?;
     assert_eq!(rt; reader.next()?, Some(Command::Open));
-    assert_eq!(rt; reader.next(), Err(Malformed::Unknown));
+    assert_eq!(rt; reader.next::<Command>(), Err(Malformed::Unknown));
     assert_eq!(rt; reader.place(), 1);
     let mut reader = Reader::new(b"P\x01")?;
-    assert_eq!(rt; reader.next(), Err(Malformed::Short));
+    assert_eq!(rt; reader.next::<Command>(), Err(Malformed::Short));
     assert_eq!(rt; reader.place(), 0);
     Ok(())
 }
 
 #[test]
-fn takes_no_more_than_the_longest(rt: HostRuntime) {
-    let bytes = [b'O'; 4097];
-    assert!(rt; Reader::new(&bytes[0..4096]).is_ok());
-    assert_eq!(rt; Reader::new(&bytes).err(), Some(Malformed::Long));
-}
-
-#[test]
-fn prints_each_line(rt: HostRuntime) -> Result<(), Fail> {
-    let figure = FigureLine {
+fn prints_a_figure(rt: HostRuntime) -> Result<(), Fail> {
+    let figure = FigureLine(Figure {
         units: 2684354560,
         held: true,
-    }
+    })
     .to_string(rt.alloc())?;
     assert_eq!(rt; figure.as_str(), "F 2684354560 1");
-    let cuts = CutsLine {
-        sets: &[3, 14, 21, 24],
-    }
-    .to_string(rt.alloc())?;
-    assert_eq!(rt; cuts.as_str(), "M 3 14 21 24");
-    let none = CutsLine { sets: &[] }.to_string(rt.alloc())?;
-    assert_eq!(rt; none.as_str(), "M");
-    let fault = FaultLine {
-        place: 31,
-        number: 14,
-    }
-    .to_string(rt.alloc())?;
-    assert_eq!(rt; fault.as_str(), "! 31 14");
     Ok(())
 }

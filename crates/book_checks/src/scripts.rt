@@ -1,29 +1,11 @@
 // Whole scripts, with the text that they print.
+use crate::page::Page;
 use book_script::interpreter::interpret;
-use book_script::output::Output;
 use book_script::run::Run;
 use std::alloc::Global;
-use std::fmt;
-use std::fmt::{Display, Write};
 use std::test::Fail;
 
-#[derive(Drop)]
-struct Page {
-    text: String,
-}
-
-impl Output for Page {
-    type Error = fmt::Error;
-
-    ghost printed = { λ _ _ _. Unit {0} };
-
-    fn print<L: Display>(&mut self, line: &L) -> fmt::Result {
-        writeln!(self.text, "{line}")?;
-        Ok(())
-    }
-}
-
-// What a script prints where few places are lent.
+// What a script prints where few places are lent. Not that of `checks`: what is tried is the call on a book.
 fn printed(heap: Global, bytes: &[u8]) -> Result<String, Fail> {
     printed_with(heap, bytes, &mut [0; 3], &mut [0; 5])
 }

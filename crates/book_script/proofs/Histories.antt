@@ -7,6 +7,7 @@ use Rattle.structure.specs.Drawings.{Drawing, order_refused, set_refused, unless
 use Rattle.structure.specs.Kinds.{path_list}
 use Rattle.structure.specs.Meanings.{Sized}
 use Rattle.book.specs.declared.call.Call.{Call}
+use Rattle.book.specs.declared.call.Weights.{Weights}
 use Rattle.book.specs.Answers.{deed_of, onward, past_after}
 use Rattle.book.specs.History.{Deed, Rate as rate, SetPrice as set_price, Withdraw as withdraw, PutBack as put_back, AskFigure as ask_figure, next}
 use Rattle.book.proofs.Acceptance.{Sound, next_sound}
@@ -14,11 +15,14 @@ use Rattle.book.proofs.Histories.{told}
 use Rattle.book.proofs.Standings.{figure_close}
 use Rattle.book_script.specs.declared.command.Command.{Command}
 use Rattle.book_script.specs.declared.command.Command.TheVariants.{Start, Add, Open, Rate, Price, Withdraw, PutBack, Figure, Tally, Signature, Cuts}
-use Rattle.book_script.specs.declared.stage.Stage.{Stage}
-use Rattle.book_script.specs.declared.stage.Stage.TheVariants.{Blank, Drawing as in_drawing, Open as opened}
+use Rattle.script.specs.declared.stage.Stage.{Stage}
+use Rattle.script.specs.declared.stage.Stage.TheVariants.{Blank, Drawing as in_drawing, Open as opened}
 use Rattle.book_script.specs.Histories.{OfHistory, at_end, before, call_at, call_of, calls_in}
-use Rattle.book_script.specs.Language.{Progress, Room, begun, drawing_on, ground, same, step}
-use Rattle.book_script.specs.Scripts.{Placed, leaves}
+use Rattle.book_script.specs.Language.{Progress, begun, drawing_on, ground, step}
+use Rattle.script.specs.Rooms.{Room}
+use Rattle.script.specs.Stages.{same}
+use Rattle.script.specs.Scripts.{Placed, leaves}
+use Rattle.book_script.specs.Answers.{effects}
 
 -- ---- orders that a drawing may have
 
@@ -44,12 +48,12 @@ at s d h = record { stage = s; drawn = d; past = h }
 abbrev Fresh : Progress → Type 0
 Fresh p = same p.stage opened ≡ false → p.past ≡ []
 
-abbrev past_with : ℕ → List Deed → Option (Call (Unit {0})) → List Deed
+abbrev past_with : ℕ → List Deed → Option (Call (Weights (Unit {0}))) → List Deed
 past_with n past None = past
 past_with n past (Some call) = onward n past (deed_of call)
 
 -- from p to q by a command that makes a call, or none: an open book stays open, on the same drawing
-record Steps (p q : Progress) (call : Option (Call (Unit {0}))) : Type 0 where
+record Steps (p q : Progress) (call : Option (Call (Weights (Unit {0})))) : Type 0 where
   past : q.past ≡ past_with p.drawn.order p.past call
   fresh : Fresh q
   sized : Sized (ground q)
@@ -75,7 +79,7 @@ opens d h fresh sized = record {
   stays_open = λ e. absurd (both_ways false refl e);
 }
 
-calls_on : (d : Drawing) (h after : List Deed) (call : Call (Unit {0})) → after ≡ onward d.order h (deed_of call) → Sized (path_list d) → Steps (at opened d h) (at opened d after) (Some call)
+calls_on : (d : Drawing) (h after : List Deed) (call : Call (Weights (Unit {0}))) → after ≡ onward d.order h (deed_of call) → Sized (path_list d) → Steps (at opened d h) (at opened d after) (Some call)
 calls_on d h after call e sized = record {
   past = e;
   fresh = λ f. absurd (both_ways true f refl);
@@ -122,35 +126,35 @@ steps room Cuts opened d h fresh sized = stays (at opened d h) fresh sized
 
 module _ (room : Room) where
   -- a command in its place
-  stepped : (c : Placed) (p : Progress) → Fresh p → Sized (ground p) → Steps p (step room c.command p).1 (call_at p c.command)
+  stepped : (c : Placed Command) (p : Progress) → Fresh p → Sized (ground p) → Steps p (step room c.command p).1 (call_at p c.command)
   stepped c p fresh sized = steps room c.command p.stage p.drawn p.past fresh sized
 
-  leaves_sized : (cs : List Placed) (p : Progress) → Fresh p → Sized (ground p) → Sized (ground (leaves room cs p))
+  leaves_sized : (cs : List (Placed Command)) (p : Progress) → Fresh p → Sized (ground p) → Sized (ground (leaves effects room cs p))
   leaves_sized [] p fresh sized = sized
   leaves_sized (c ∷ cs) p fresh sized =
       let s = stepped c p fresh sized in
       leaves_sized cs (step room c.command p).1 s.fresh s.sized
 
-  leaves_open : (cs : List Placed) (p : Progress) → Fresh p → Sized (ground p) → same p.stage opened ≡ true → (leaves room cs p).drawn ≡ p.drawn
+  leaves_open : (cs : List (Placed Command)) (p : Progress) → Fresh p → Sized (ground p) → same p.stage opened ≡ true → (leaves effects room cs p).drawn ≡ p.drawn
   leaves_open [] p fresh sized is_open = refl
   leaves_open (c ∷ cs) p fresh sized is_open =
       let s = stepped c p fresh sized in
       leaves_open cs (step room c.command p).1 s.fresh s.sized (s.stays_open is_open).0 ∙ (s.stays_open is_open).1
 
-  same_order : (is_open : Bool) (call : Option (Call (Unit {0}))) (k n : ℕ) (past : List Deed) → (is_open ≡ true → k ≡ n) → past_with k past (cond is_open call None) ≡ past_with n past (cond is_open call None)
+  same_order : (is_open : Bool) (call : Option (Call (Weights (Unit {0})))) (k n : ℕ) (past : List Deed) → (is_open ≡ true → k ≡ n) → past_with k past (cond is_open call None) ≡ past_with n past (cond is_open call None)
   same_order true call k n past e = ap (λ x. past_with x past call) (e refl)
   same_order false call k n past e = refl
 
-  with_call : (n : ℕ) (past : List Deed) (call : Option (Call (Unit {0}))) (calls : List (Call (Unit {0}))) → past_after n (past_with n past call) calls ≡ past_after n past (before call calls)
+  with_call : (n : ℕ) (past : List Deed) (call : Option (Call (Weights (Unit {0})))) (calls : List (Call (Weights (Unit {0})))) → past_after n (past_with n past call) calls ≡ past_after n past (before call calls)
   with_call n past None calls = refl
   with_call n past (Some call) calls = refl
 
-  pasts : (cs : List Placed) (p : Progress) → Fresh p → Sized (ground p) → (leaves room cs p).past ≡ past_after (leaves room cs p).drawn.order p.past (calls_in room cs p)
+  pasts : (cs : List (Placed Command)) (p : Progress) → Fresh p → Sized (ground p) → (leaves effects room cs p).past ≡ past_after (leaves effects room cs p).drawn.order p.past (calls_in room cs p)
   pasts [] p fresh sized = refl
   pasts (c ∷ cs) p fresh sized =
       let q = (step room c.command p).1 in
       let s = stepped c p fresh sized in
-      let n = (leaves room cs q).drawn.order in
+      let n = (leaves effects room cs q).drawn.order in
       let kept : same p.stage opened ≡ true → p.drawn.order ≡ n = λ is_open. ap (λ (d : Drawing). d.order) (sym (leaves_open (c ∷ cs) p fresh sized is_open)) in
       pasts cs q s.fresh s.sized
       ∙ ap (λ h. past_after n h (calls_in room cs q)) (s.past ∙ same_order (same p.stage opened) (call_of c.command) p.drawn.order n p.past kept)
@@ -162,11 +166,11 @@ onward_sound : (n : ℕ) (past : List Deed) (deed : Option Deed) → Sound n pas
 onward_sound n past None sound = sound
 onward_sound n past (Some deed) sound = next_sound n past deed sound
 
-past_sound : (n : ℕ) (past : List Deed) (calls : List (Call (Unit {0}))) → Sound n past → Sound n (past_after n past calls)
+past_sound : (n : ℕ) (past : List Deed) (calls : List (Call (Weights (Unit {0})))) → Sound n past → Sound n (past_after n past calls)
 past_sound n past [] sound = sound
 past_sound n past (call ∷ calls) sound = past_sound n (onward n past (deed_of call)) calls (onward_sound n past (deed_of call) sound)
 
-pub of_history : (room : Room) (commands : List Placed) → OfHistory room commands
+pub of_history : (room : Room) (commands : List (Placed Command)) → OfHistory room commands
 of_history room commands =
     let p = at_end room commands in
     let n = p.drawn.order in

@@ -13,11 +13,9 @@ use Rattle.analysis.proofs.Agreement.{same_minimal_sets}
 use Rattle.analysis.proofs.CountAgreement.{same_path_numbers, same_signature}
 use Rattle.sheet.specs.declared.refusal.Refusal.{Refusal as BookRefusal}
 use Rattle.sheet.specs.Sheets.{rated, priced, taken_out, put_back}
-use Rattle.book.specs.declared.answer.Answer.{Answer as BookAnswer}
-use Rattle.book.specs.declared.answer.Answer.TheVariants.{Done, Refused, Figure as figure_is, Importance as importance_is, Weighed as weighed_is}
 use Rattle.book.specs.declared.book.Book.{Book}
 use Rattle.book.specs.declared.figure.Figure.{Figure as FigureAnswer}
-use Rattle.book.specs.Answers.{ruled as told_by}
+use Rattle.book.specs.Answers.{Answer as BookAnswer, ruled as told_by}
 use Rattle.book.specs.Books.{opened, entered, stands, book_figure}
 use Rattle.book.specs.Entries.{altered, repriced}
 use Rattle.book.specs.Following.{Saw, done_or}
@@ -32,18 +30,16 @@ use Rattle.book_script.specs.declared.fault.StationRefusal.TheVariants.{Book as 
 use Rattle.book_script.specs.declared.reply.Reply.{Reply}
 use Rattle.book_script.specs.declared.reply.Reply.TheVariants.{Figure as figure_reply}
 use Rattle.book_script.specs.declared.run.Run.{Run}
-use Rattle.book_script.specs.declared.stage.Stage.TheVariants.{Open}
-use Rattle.book_script.specs.Language.{Answer, Progress, Room, silent, figure, tally, signature, cuts, answered, called, ground, if_room, numbers_after, ruled, sets_after, station, step}
-use Rattle.book_script.specs.Runs.{Executed, Inside, Stands, room_of, said, silent_or}
-use Rattle.book_script.specs.Stages.{is_open}
+use Rattle.script.specs.declared.stage.Stage.TheVariants.{Open}
+use Rattle.book_script.specs.Language.{Answer, Progress, silent, figure, tally, signature, cuts, called, ground, if_room, numbers_after, ruled, sets_after, station, step}
+use Rattle.script.specs.Rooms.{answered, Room, room_of}
+use Rattle.book_script.specs.Runs.{Executed, Inside, Stands, said, silent_or}
+use Rattle.script.specs.Stages.{is_open}
 
 -- what a script says of a book's answer to a call that only does something
 abbrev spoken : BookAnswer ℕ → Result Answer Fault
-spoken Done = Ok silent
-spoken (figure_is f) = Ok silent
-spoken (importance_is units) = Ok silent
-spoken (weighed_is sum) = Ok silent
-spoken (Refused why) = Err (Station (of_book why))
+spoken (Ok reply) = Ok silent
+spoken (Err why) = Err (Station (of_book why))
 
 spoken_done : (r : Result (Unit {0}) BookRefusal) (sets numbers : List ℕ) → said (silent_or r) sets numbers ≡ spoken (done_or r)
 spoken_done (Ok done) sets numbers = refl

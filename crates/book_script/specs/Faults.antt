@@ -3,17 +3,11 @@ use Rattle.std.specs.Prelude.{ℕ}
 use Rattle.analysis.specs.Refusals.{number_of as analysis_number}
 use Rattle.sheet.specs.Refusals.{number_of as book_number}
 use Rattle.structure.specs.Refusals.{number_of as structure_number}
-use Rattle.book_script.specs.declared.fault.Malformed.{Malformed}
-use Rattle.book_script.specs.declared.fault.Malformed.TheVariants.{Unknown, Short, Long}
+use Rattle.script.specs.Faults.{malformed_number}
 use Rattle.book_script.specs.declared.fault.StationRefusal.{StationRefusal}
 use Rattle.book_script.specs.declared.fault.StationRefusal.TheVariants.{Structure, Analysis, Book}
 use Rattle.book_script.specs.declared.fault.Fault.{Fault}
 use Rattle.book_script.specs.declared.fault.Fault.TheVariants.{Reading, Stage, Station}
-
-abbrev pub malformed_number : Malformed → ℕ
-malformed_number Unknown = 20  -- the byte begins no command
-malformed_number Short = 21  -- the input ends within a command
-malformed_number Long = 23  -- the input has more than 4,096 bytes
 
 abbrev pub refusal_number : StationRefusal → ℕ
 refusal_number (Structure why) = structure_number why

@@ -1,10 +1,9 @@
 -- What the commands of a script mean. Assumes nothing.
-use Rattle.std.specs.Prelude.{ℕ, Bool, true, false, cond, List, [], length, Some, None, Ok, Err, Option, Result, nat_le}
+use Rattle.std.specs.Prelude.{ℕ, cond, List, [], Some, None, Ok, Err, Option, Result}
 use Rattle.structure.specs.declared.refusal.Refusal.{Refusal}
 use Rattle.structure.specs.Drawings.{Drawing, blank, started, added}
 use Rattle.structure.specs.Kinds.{path_list}
 use Rattle.structure.specs.Meanings.{Meaning}
-use Rattle.analysis.specs.declared.refusal.Refusal.TheVariants.{TooFewPlaces}
 use Rattle.analysis.specs.declared.role.Role.TheVariants.{Cut}
 use Rattle.analysis.specs.Minimal.{minimal_sets}
 use Rattle.analysis.specs.Orders.{signature_of}
@@ -20,8 +19,10 @@ use Rattle.book_script.specs.declared.command.Command.TheVariants.{Start, Add, O
 use Rattle.book_script.specs.declared.fault.Fault.{Fault}
 use Rattle.book_script.specs.declared.fault.Fault.TheVariants.{Stage as wrong_stage, Station}
 use Rattle.book_script.specs.declared.fault.StationRefusal.TheVariants.{Structure, Analysis, Book}
-use Rattle.book_script.specs.declared.stage.Stage.{Stage}
-use Rattle.book_script.specs.declared.stage.Stage.TheVariants.{Blank, Drawing as in_drawing, Open as opened}
+use Rattle.script.specs.Rooms.{Room, answered, room_or}
+use Rattle.script.specs.Stages.{same}
+use Rattle.script.specs.declared.stage.Stage.{Stage}
+use Rattle.script.specs.declared.stage.Stage.TheVariants.{Blank, Drawing as in_drawing, Open as opened}
 
 -- how far a script has come, what is drawn, and the accepted calls on its book, the newest first
 pub record Progress : Type 0 where
@@ -32,11 +33,6 @@ pub record Progress : Type 0 where
 -- nothing is drawn yet
 abbrev pub begun : Progress
 begun = record { stage = Blank; drawn = blank; past = [] }
-
--- how many places are lent for sets, and how many for numbers
-pub record Room : Type 0 where
-  pub sets : ℕ
-  pub numbers : ℕ
 
 -- what an accepted command answers: nothing to print, a figure, or numbers
 pub data Answer : Type 0 where
@@ -57,17 +53,6 @@ taken_in Figure = opened
 taken_in Tally = opened
 taken_in Signature = opened
 taken_in Cuts = opened
-
-abbrev pub same : Stage → Stage → Bool
-same Blank Blank = true
-same Blank in_drawing = false
-same Blank opened = false
-same in_drawing Blank = false
-same in_drawing in_drawing = true
-same in_drawing opened = false
-same opened Blank = false
-same opened in_drawing = false
-same opened opened = true
 
 -- after a call on the drawing: in drawing, or as before with the call's refusal
 abbrev pub drawing_on : Progress → Result (Unit {0}) Refusal → Drawing → Result Answer Fault × Progress
@@ -99,11 +84,7 @@ cuts_of p = minimal_sets Cut (station p)
 
 -- an answer of several numbers, if there is room for them
 abbrev pub if_room : ℕ → List ℕ → Result (List ℕ) Fault
-if_room room xs = cond (nat_le (length xs) room) (Ok xs) (Err (Station (Analysis (TooFewPlaces (length xs)))))
-
-abbrev pub answered : (List ℕ → Answer) → Result (List ℕ) Fault → Result Answer Fault
-answered said (Ok xs) = Ok (said xs)
-answered said (Err fault) = Err fault
+if_room = room_or (λ why. Station (Analysis why))
 
 -- what a command that is taken answers, and what then stands
 abbrev pub carried : Room → Command → Progress → Result Answer Fault × Progress

@@ -1,5 +1,5 @@
 -- What a run of the code stands for, and what its replies say. Assumes nothing.
-use Rattle.std.specs.Prelude.{◌≡◌, ℕ, ◌≤◌, true, List, length, take, Ok, Err, Result}
+use Rattle.std.specs.Prelude.{◌≡◌, ℕ, ◌≤◌, true, List, take, Ok, Err, Result}
 use Rattle.structure.specs.Drawings.{drawing}
 use Rattle.sheet.specs.declared.refusal.Refusal.{Refusal as BookRefusal}
 use Rattle.book.specs.Following.{Saw}
@@ -10,8 +10,9 @@ use Rattle.book_script.specs.declared.fault.StationRefusal.TheVariants.{Book}
 use Rattle.book_script.specs.declared.reply.Reply.{Reply}
 use Rattle.book_script.specs.declared.reply.Reply.TheVariants.{Silent, Figure, Tally, Signature, Cuts}
 use Rattle.book_script.specs.declared.run.Run.{Run}
-use Rattle.book_script.specs.Language.{Progress, Room, Answer, silent, figure, tally, signature, cuts, ground, step, sets_after, numbers_after}
-use Rattle.book_script.specs.Stages.{is_open}
+use Rattle.book_script.specs.Language.{Progress, Answer, silent, figure, tally, signature, cuts, ground, step, sets_after, numbers_after}
+use Rattle.script.specs.Rooms.{room_of}
+use Rattle.script.specs.Stages.{is_open}
 
 -- the run has come as far as p and drawn the same; once it is open, its book was opened on the drawing and has seen the past
 pub record Stands (run : Run) (p : Progress) : Type 0 where
@@ -41,10 +42,6 @@ Inside (Err fault) sets numbers = Unit {0}
 abbrev pub silent_or : Result (Unit {0}) BookRefusal → Result Reply Fault
 silent_or (Ok done) = Ok Silent
 silent_or (Err why) = Err (Station (Book why))
-
--- as many places as there are in these lists
-abbrev pub room_of : List ℕ → List ℕ → Room
-room_of sets numbers = record { sets = length sets; numbers = length numbers }
 
 -- a command carried out on a run that stood at p, with places lent: what it answers, what then stands, and what the places then hold
 pub record Executed (command : Command) (p : Progress) (lent-sets lent-numbers : List ℕ) (after : Run) (r : Result Reply Fault) (left-sets left-numbers : List ℕ) : Type 0 where

@@ -1,4 +1,4 @@
-// One command of a script with its operands, for the reader and whoever runs it.
+// One command of a script with its operands, for the reader and whoever runs it. A type beside that of drawings, to whose programs a rate or a withdrawal is an unknown byte.
 #[derive(Clone, Copy, Debug, PartialEq, Eq)]
 pub enum Command {
     Start { order: u8 },

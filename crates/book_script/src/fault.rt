@@ -2,19 +2,12 @@
 ghost use Rattle.std.specs.Prelude.{◌≡◌};
 ghost use Rattle.book_script.specs.declared.fault.Fault.TheVariants.{Reading, Station};
 ghost use Rattle.book_script.specs.declared.fault.StationRefusal.TheVariants.{Structure, Analysis, Book};
-ghost use Rattle.book_script.specs.Faults.{number_of, malformed_number, refusal_number};
+ghost use Rattle.book_script.specs.Faults.{number_of, refusal_number};
 
 use analysis::refusal::Refusal as AnalysisRefusal;
+pub use script::fault::Malformed;
 use sheet::refusal::Refusal as BookRefusal;
 use structure::refusal::Refusal as StructureRefusal;
-
-// Why a script cannot be read.
-#[derive(Clone, Copy, Debug, PartialEq, Eq)]
-pub enum Malformed {
-    Unknown,
-    Short,
-    Long,
-}
 
 // Why the station refused a command that was read and taken.
 #[derive(Clone, Copy, Debug, PartialEq, Eq)]
@@ -24,23 +17,12 @@ pub enum StationRefusal {
     Book(BookRefusal),
 }
 
+// Not generic in the refusal with `script`'s: an impl of `From` names a type of its crate, so `?` would take as many impls again.
 #[derive(Clone, Copy, Debug, PartialEq, Eq)]
 pub enum Fault {
     Reading(Malformed),
     Stage,
     Station(StationRefusal),
-}
-
-impl Malformed {
-    pub fn number(self) -> u8
-        ensures { result ≡ malformed_number self }
-    {
-        match self {
-            Malformed::Unknown => 20,
-            Malformed::Short => 21,
-            Malformed::Long => 23,
-        }
-    }
 }
 
 impl StationRefusal {
@@ -67,6 +49,7 @@ impl Fault {
     }
 }
 
+// Written by hand here and below, since contracts read `from_gives`, which no derive writes.
 impl From<Malformed> for Fault {
     ghost from_gives = { λ why fault. fault ≡ Reading why };
 

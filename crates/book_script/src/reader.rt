@@ -1,94 +1,42 @@
-// Takes the commands of a script one by one from its bytes, for whoever runs it.
-ghost use Rattle.std.specs.Prelude.{◌≡◌, ◌+◌, ◌<◌, ◌≤◌, length, MatchResult};
-ghost use Rattle.book_script.specs.declared.fault.Malformed.TheVariants.{Long};
-ghost use Rattle.book_script.specs.Reading.{front_of, command_of, size_of, Onward};
-ghost use Rattle.book_script.specs.Readers.{whole, unread};
+// Takes the commands on a book from the bytes of a script.
+ghost use Rattle.book_script.specs.Forms.{forms};
 
 use crate::command::Command;
 use crate::fault::Malformed;
+pub use script::reader::{LONGEST, Parse, Reader};
 
-// The most bytes that a script may have.
-pub const LONGEST: usize = 4096;
+impl Parse for Command {
+    ghost forms = { forms };
 
-#[derive(Drop)]
-pub struct Reader<'a> {
-    bytes: &'a [u8],
-    place: usize,
-}
-
-impl<'a> Reader<'a> {
-    pub fn new(bytes: &'a [u8]) -> Result<Reader<'a>, Malformed>
-        ensures { MatchResult result (λ reader. (length bytes.now ≤ 4096) × (whole reader ≡ bytes.now) × (reader.place ≡ 0)) (λ fault. (4096 < length bytes.now) × (fault ≡ Long)) }
-    {
-        if bytes.len() > LONGEST {
-            return Err(Malformed::Long);
+    fn front(bytes: &[u8]) -> Result<Option<(Command, usize)>, Malformed> {
+        match bytes {
+            [] => Ok(None),
+            [b'N', order, ..] => Ok(Some((Command::Start { order: *order }, 2))),
+            [b'P', high, low, ..] => {
+                let set = u16::from_be_bytes([*high, *low]);
+                Ok(Some((Command::Add { set }, 3)))
+            }
+            [b'O', ..] => Ok(Some((Command::Open, 1))),
+            [b'R', part, a, b, c, d, ..] => {
+                let rating = u32::from_be_bytes([*a, *b, *c, *d]);
+                let command = Command::Rate {
+                    part: *part,
+                    rating,
+                };
+                Ok(Some((command, 6)))
+            }
+            [b'C', part, a, b, ..] => {
+                let price = u16::from_be_bytes([*a, *b]);
+                Ok(Some((Command::Price { part: *part, price }, 4)))
+            }
+            [b'W', part, ..] => Ok(Some((Command::Withdraw { part: *part }, 2))),
+            [b'B', part, ..] => Ok(Some((Command::PutBack { part: *part }, 2))),
+            [b'F', ..] => Ok(Some((Command::Figure, 1))),
+            [b'T', ..] => Ok(Some((Command::Tally, 1))),
+            [b'S', ..] => Ok(Some((Command::Signature, 1))),
+            [b'M', ..] => Ok(Some((Command::Cuts, 1))),
+            [b'N' | b'P' | b'R' | b'C' | b'W' | b'B', ..] => Err(Malformed::Short),
+            [_, ..] => Err(Malformed::Unknown),
         }
-        Ok(Reader { bytes, place: 0 })
-    }
-
-    // Where the next command begins.
-    pub fn place(&self) -> usize
-        ensures { result ≡ self.now.place }
-    {
-        self.place
-    }
-
-    // Passes the next command, or stays where it is.
-    pub fn next(&mut self) -> Result<Option<Command>, Malformed>
-        ensures answer { result ≡ command_of (front_of (unread self.old)) }
-        ensures place { self.new.place ≡ self.old.place + size_of (front_of (unread self.old)) }
-        ensures kept { whole self.new ≡ whole self.old }
-        ensures onward { Onward result self.old.place self.new.place (length (whole self.old)) }
-    {
-        let Some((command, size)) = front(self.rest())? else {
-            return Ok(None);
-        };
-        self.place += size;
-        Ok(Some(command))
-    }
-
-    fn rest(&self) -> &'a [u8]
-        ensures { result.now ≡ unread self.now }
-    {
-        match self.bytes.get(self.place..) {
-            Some(rest) => rest,
-            None => &[],
-        }
-    }
-}
-
-// The command at the front, and how many bytes it takes.
-fn front(bytes: &[u8]) -> Result<Option<(Command, usize)>, Malformed>
-    ensures value { result ≡ front_of bytes.now }
-    ensures within { Onward (command_of result) 0 (size_of result) (length bytes.now) }
-{
-    match bytes {
-        [] => Ok(None),
-        [b'N', order, ..] => Ok(Some((Command::Start { order: *order }, 2))),
-        [b'P', high, low, ..] => {
-            let set = u16::from_be_bytes([*high, *low]);
-            Ok(Some((Command::Add { set }, 3)))
-        }
-        [b'O', ..] => Ok(Some((Command::Open, 1))),
-        [b'R', part, a, b, c, d, ..] => {
-            let rating = u32::from_be_bytes([*a, *b, *c, *d]);
-            let command = Command::Rate {
-                part: *part,
-                rating,
-            };
-            Ok(Some((command, 6)))
-        }
-        [b'C', part, a, b, ..] => {
-            let price = u16::from_be_bytes([*a, *b]);
-            Ok(Some((Command::Price { part: *part, price }, 4)))
-        }
-        [b'W', part, ..] => Ok(Some((Command::Withdraw { part: *part }, 2))),
-        [b'B', part, ..] => Ok(Some((Command::PutBack { part: *part }, 2))),
-        [b'F', ..] => Ok(Some((Command::Figure, 1))),
-        [b'T', ..] => Ok(Some((Command::Tally, 1))),
-        [b'S', ..] => Ok(Some((Command::Signature, 1))),
-        [b'M', ..] => Ok(Some((Command::Cuts, 1))),
-        [b'N' | b'P' | b'R' | b'C' | b'W' | b'B', ..] => Err(Malformed::Short),
-        [_, ..] => Err(Malformed::Unknown),
     }
 }

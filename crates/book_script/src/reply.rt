@@ -1,4 +1,4 @@
-// What an accepted command answers: nothing, a figure, or how many of the lent places now hold it.
+// What an accepted command answers: nothing, a figure, or how many of the lent places now hold it. A count and no slice: a reply that borrowed the places could not tell what they hold.
 use book::figure::Figure;
 
 #[derive(Clone, Copy, Debug, PartialEq, Eq)]

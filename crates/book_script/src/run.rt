@@ -3,10 +3,12 @@ use crate::stage::Stage;
 use book::book::Book;
 use structure::path_list::PathList;
 
+mod answers;
 pub mod calls;
 
 #[derive(Drop)]
 pub struct Run {
+    // A plain tag: one match on it and the command serves all stages.
     stage: Stage,
     drawn: PathList,
     // Before the opening, that of a blank drawing.

@@ -1,27 +1,9 @@
 // Whole scripts, with the text that they print.
+use crate::page::Page;
 use script::interpreter::interpret;
-use script::output::Output;
 use script::run::Run;
 use std::alloc::Global;
-use std::fmt;
-use std::fmt::{Display, Write};
 use std::test::Fail;
-
-#[derive(Drop)]
-struct Page {
-    text: String,
-}
-
-impl Output for Page {
-    type Error = fmt::Error;
-
-    ghost printed = { λ _ _ _. Unit {0} };
-
-    fn print<L: Display>(&mut self, line: &L) -> fmt::Result {
-        writeln!(self.text, "{line}")?;
-        Ok(())
-    }
-}
 
 // What a script prints where few places are lent.
 fn printed(heap: Global, bytes: &[u8]) -> Result<String, Fail> {

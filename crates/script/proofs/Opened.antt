@@ -16,14 +16,14 @@ use Rattle.script.specs.Runs.{progress}
 use Rattle.script.specs.Stages.{is_open}
 
 module _ (run : Run) (at_open : is_open run.stage ≡ true) where
-  opened_same : Same (tabled run.opened.order run.opened.words) (station (progress run))
+  opened_same : Same (tabled run.opened.order.parts run.opened.words) (station (progress run))
   opened_same = record { order = run.order at_open; works = λ s h. run.works s (at_open, subst (λ n. s < 2 ^ n) (run.order at_open) h) }
 
-  pub opened_cuts : minimal_sets Cut (tabled run.opened.order run.opened.words) ≡ cuts_of (progress run)
+  pub opened_cuts : minimal_sets Cut (tabled run.opened.order.parts run.opened.words) ≡ cuts_of (progress run)
   opened_cuts = same_minimal_sets _ _ opened_same Cut
 
-  pub opened_tally : path_numbers (tabled run.opened.order run.opened.words) ≡ path_numbers (station (progress run))
+  pub opened_tally : path_numbers (tabled run.opened.order.parts run.opened.words) ≡ path_numbers (station (progress run))
   opened_tally = same_path_numbers _ _ opened_same
 
-  pub opened_signature : signature_of (tabled run.opened.order run.opened.words) ≡ signature_of (station (progress run))
+  pub opened_signature : signature_of (tabled run.opened.order.parts run.opened.words) ≡ signature_of (station (progress run))
   opened_signature = same_signature _ _ opened_same run.opened.monotone (path_list_monotone (drawing run.drawn.list))

@@ -1,11 +1,14 @@
 -- A row of values that is written one by one. Assumes nothing.
-use Rattle.std.proofs.Common.{◌≡◌, ℕ, ◌+◌, ◌<◌, ◌≤◌, List, [], ◌∷◌, ◌++◌, length, get_or, take, Some, None, Ok, codes, decimal, Option, Result, sym, refl, ap, ◌∙◌, append-nil, take_all}
-use Rattle.std.specs.declared.fmt.Error.{Error}
+use Rattle.std.proofs.Common.{◌≡◌, ℕ, ◌+◌, ◌<◌, ◌≤◌, List, [], ◌∷◌, ◌++◌, length, get_or, take, Some, None, Ok, Err, codes, decimal, Option, Result, sym, refl, ap, ◌∙◌, append-nil, take_all}
 use Rattle.std.specs.declared.fmt.Formatter.{Formatter}
-use Rattle.std.specs.Fmt.{IsPlainFormatter, HasWritten, WritesOnOk, DisplaysOnOk, option_append}
+use Rattle.std.specs.Fmt.{IsPlainFormatter, HasWritten, DisplaysOnOk, option_append}
 use Rattle.std.proofs.Output.{then_text_assoc, writes_in_calls_nil, displays_on_IsOk_append, displays_on_ok_of_eq}
 use Rattle.std.proofs.lemmas.List.{take_more}
-use Rattle.script.specs.Lines.{spaced}
+use Rattle.std.specs.Prelude.{OnOk}
+use Rattle.script.specs.declared.line.RowKind.{RowKind}
+use Rattle.script.specs.Lines.{letter_of, row_text}
+use Rattle.script.specs.Printing.{Prints}
+use Rattle.script.specs.RowTexts.{row_numbers}
 use Rattle.script.specs.Rows.{row}
 
 none_then : (o : Option (List ℕ)) → option_append (Some []) o ≡ o
@@ -33,10 +36,6 @@ module _ {X : Type 0} (shown : X → Option (List ℕ)) where
       ∙ row_append front (x ∷ [])
       ∙ ap (λ o. option_append (row shown front) (option_append (Some (codes " ")) o)) (then_none (shown x))
 
-row_spaced : (ns : List ℕ) → row (λ n. Some (decimal n)) ns ≡ Some (spaced ns)
-row_spaced [] = refl
-row_spaced (n ∷ ns) = ap (λ o. option_append (Some (codes " ")) (option_append (Some (decimal n)) o)) (row_spaced ns)
-
 module _ {W : Type 0} (took : W → List ℕ → W → Type 0) where
   abbrev Written : Formatter W → Option (List ℕ) → Formatter W → Type 0
   Written f o g = DisplaysOnOk took f (Ok tt) o g
@@ -58,6 +57,7 @@ module _ {W : Type 0} (took : W → List ℕ → W → Type 0) where
         displays_on_ok_of_eq took f h (Ok tt) _ _ (ap (λ ys. option_append (Some word) (row shown ys)) (take_all i xs all))
         (displays_on_IsOk_append took f g h (Ok tt) (Ok tt) (Some word) (row shown (take i xs)) (λ ok. ok) first rest)
 
-  -- of numbers the row is known
-  pub row_numbers : (f g : Formatter W) (r : Result (Unit {0}) Error) (word : List ℕ) (ns : List ℕ) → DisplaysOnOk took f r (option_append (Some word) (row (λ n. Some (decimal n)) ns)) g → WritesOnOk took f r (word ++ spaced ns) g
-  row_numbers f g r word ns = displays_on_ok_of_eq took f g r _ (Some (word ++ spaced ns)) (ap (option_append (Some word)) (row_spaced ns))
+-- a row of numbers that an output took is one line more
+pub row_printed : {O E : Type 0} (printed : O → List ℕ → O → Type 0) (before after : O) (kind : RowKind) (ns : List ℕ) (r : Result (Unit {0}) E) → OnOk r ((t : List ℕ) → option_append (Some (letter_of kind)) (row (λ n. Some (decimal n)) ns) ≡ Some t → printed before t after) → OnOk r (Prints printed before (row_text kind ns ∷ []) after)
+row_printed printed before after kind ns (Ok done) told = (after, told (row_text kind ns) (row_numbers kind ns), refl)
+row_printed printed before after kind ns (Err why) told = tt

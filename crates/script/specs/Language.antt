@@ -1,10 +1,9 @@
 -- What the commands of a script mean. Assumes nothing.
-use Rattle.std.specs.Prelude.{ℕ, Bool, true, false, cond, List, length, Ok, Err, Result, nat_le}
+use Rattle.std.specs.Prelude.{ℕ, cond, List, Ok, Err, Result}
 use Rattle.structure.specs.declared.refusal.Refusal.{Refusal}
 use Rattle.structure.specs.Drawings.{Drawing, blank, started, added}
 use Rattle.structure.specs.Kinds.{path_list}
 use Rattle.structure.specs.Meanings.{Meaning}
-use Rattle.analysis.specs.declared.refusal.Refusal.TheVariants.{TooFewPlaces}
 use Rattle.analysis.specs.declared.role.Role.TheVariants.{Cut}
 use Rattle.analysis.specs.Minimal.{minimal_sets}
 use Rattle.analysis.specs.Orders.{signature_of}
@@ -17,6 +16,8 @@ use Rattle.script.specs.declared.fault.Fault.TheVariants.{Stage as wrong_stage, 
 use Rattle.script.specs.declared.fault.StationRefusal.TheVariants.{Structure, Analysis}
 use Rattle.script.specs.declared.stage.Stage.{Stage}
 use Rattle.script.specs.declared.stage.Stage.TheVariants.{Blank, Drawing as in_drawing, Open as opened}
+use Rattle.script.specs.Rooms.{Room, answered, room_or}
+use Rattle.script.specs.Stages.{same}
 
 -- how far a script has come, and what is drawn
 pub record Progress : Type 0 where
@@ -26,11 +27,6 @@ pub record Progress : Type 0 where
 -- nothing is drawn yet
 abbrev pub begun : Progress
 begun = record { stage = Blank; drawn = blank }
-
--- how many places are lent for sets, and how many for numbers
-pub record Room : Type 0 where
-  pub sets : ℕ
-  pub numbers : ℕ
 
 -- what an accepted command answers: nothing to print, or numbers
 pub data Answer : Type 0 where
@@ -46,17 +42,6 @@ taken_in Tally = opened
 taken_in Signature = opened
 taken_in Cuts = opened
 
-abbrev pub same : Stage → Stage → Bool
-same Blank Blank = true
-same Blank in_drawing = false
-same Blank opened = false
-same in_drawing Blank = false
-same in_drawing in_drawing = true
-same in_drawing opened = false
-same opened Blank = false
-same opened in_drawing = false
-same opened opened = true
-
 -- after a call on the drawing: in drawing, or as before with the call's refusal
 abbrev pub drawing_on : Progress → Result (Unit {0}) Refusal → Drawing → Result Answer Fault × Progress
 drawing_on p (Ok done) new = (Ok silent, record { stage = in_drawing; drawn = new })
@@ -71,11 +56,7 @@ cuts_of p = minimal_sets Cut (station p)
 
 -- an answer of several numbers, if there is room for them
 abbrev pub if_room : ℕ → List ℕ → Result (List ℕ) Fault
-if_room room xs = cond (nat_le (length xs) room) (Ok xs) (Err (Station (Analysis (TooFewPlaces (length xs)))))
-
-abbrev pub answered : (List ℕ → Answer) → Result (List ℕ) Fault → Result Answer Fault
-answered said (Ok xs) = Ok (said xs)
-answered said (Err fault) = Err fault
+if_room = room_or (λ why. Station (Analysis why))
 
 -- what a command that is taken answers, and what then stands
 abbrev pub carried : Room → Command → Progress → Result Answer Fault × Progress

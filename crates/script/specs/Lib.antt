@@ -1,11 +1,16 @@
 pub mod Faults
 pub mod Reading
+pub mod Forms
 pub mod Readers
 pub mod Lines
 pub mod Rows
+pub mod RowTexts
 pub mod Stages
+pub mod Rooms
 pub mod Language
 pub mod Printing
 pub mod Scripts
+pub mod Answers
 pub mod Runs
 pub mod Transcripts
+pub mod Sources

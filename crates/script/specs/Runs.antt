@@ -25,12 +25,3 @@ Inside (Ok (Tally count)) sets numbers = count ≤ numbers
 Inside (Ok (Signature count)) sets numbers = count ≤ numbers
 Inside (Ok (Cuts count)) sets numbers = count ≤ sets
 Inside (Err fault) sets numbers = Unit {0}
-
--- the numbers that a count and the places tell together
-abbrev pub counted : Result ℕ Fault → List ℕ → Result (List ℕ) Fault
-counted (Ok count) places = Ok (take count places)
-counted (Err fault) places = Err fault
-
-abbrev pub CountInside : Result ℕ Fault → ℕ → Type 0
-CountInside (Ok count) room = count ≤ room
-CountInside (Err fault) room = Unit {0}

@@ -64,6 +64,7 @@ impl Fault {
     }
 }
 
+// Written by hand here and below, since contracts read `from_gives`, which no derive writes.
 impl From<Malformed> for Fault {
     ghost from_gives = { λ why fault. fault ≡ Reading why };
 

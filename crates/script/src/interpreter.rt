@@ -1,97 +1,81 @@
 // Runs a whole script: reads its commands, carries them out one after another, and prints what they answer.
-ghost use Rattle.std.specs.Prelude.{◌≡◌, length, OnOk};
-ghost use Rattle.script.specs.Language.{step};
+ghost use Rattle.std.specs.Prelude.{◌≡◌, OnOk};
 ghost use Rattle.script.specs.Printing.{Prints};
-ghost use Rattle.script.specs.Runs.{progress};
 ghost use Rattle.script.specs.Readers.{unread};
-ghost use Rattle.script.specs.Scripts.{line_of, read_from, script_of};
+ghost use Rattle.script.specs.Rooms.{room_of};
+ghost use Rattle.script.specs.Scripts.{Effects, read_from, script_of};
 ghost use Rattle.script.specs.Transcripts.{Interpreted};
 
-use crate::command::Command;
-use crate::line::{CutsLine, FaultLine, SignatureLine, TallyLine};
+use crate::line::FaultLine;
 use crate::output::Output;
-use crate::reader::{LONGEST, Reader};
-use crate::reply::Reply;
-use crate::run::Run;
+use crate::reader::{LONGEST, Parse, Reader};
+
+// A script of one language as it runs.
+pub trait Session {
+    type Command: Parse;
+
+    // How far a script can have come.
+    ghost Progress: { Type 0 };
+
+    ghost stands: { Self → Progress → Type 0 };
+
+    ghost effects: { Effects Self.Command Progress };
+
+    // Carries out a command, and prints the line that answers it, if one does.
+    // The places are two slices, since each contract would have to say of a struct of both that it still holds the same ones.
+    fn answer<O: Output>(
+        &mut self,
+        place: usize,
+        command: Self::Command,
+        sets: &mut [u16],
+        numbers: &mut [u64],
+        out: &mut O,
+    ) -> Result<(), O::Error>
+        ensures stands { (p : Progress) → stands self.old p → stands self.new (effects.makes (room_of sets.old numbers.old) command p) }
+        ensures sets { (p : Progress) → stands self.old p → sets.new ≡ effects.sets command p sets.old }
+        ensures numbers { (p : Progress) → stands self.old p → numbers.new ≡ effects.numbers command p numbers.old }
+        ensures printed { (p : Progress) → stands self.old p → OnOk result (Prints O.Output.printed out.old (effects.prints (room_of sets.old numbers.old) (record { place = place; command = command }) p) out.new) };
+}
 
 // Answers what `out` answers where a line could not be printed, and then stops.
-pub fn interpret<O: Output>(
-    run: &mut Run,
+pub fn interpret<S: Session, O: Output>(
+    run: &mut S,
     bytes: &[u8],
     sets: &mut [u16],
     numbers: &mut [u64],
     out: &mut O,
 ) -> Result<(), O::Error>
-    ensures { OnOk result (Interpreted O.Output.printed (record { sets = length sets.old; numbers = length numbers.old }) (script_of bytes.now) (progress run.old) out.old (progress run.new) out.new) }
+    ensures { (p : S.Progress) → S.stands run.old p → OnOk result (Interpreted S.effects S.stands O.Output.printed (record { sets = sets.old; numbers = numbers.old }) (script_of S.Command.forms bytes.now) p out.old run.new out.new (record { sets = sets.new; numbers = numbers.new })) }
 {
     match Reader::new(bytes) {
         Ok(mut reader) => each_command(run, &mut reader, sets, numbers, out),
-        Err(why) => {
-            let number = why.number();
-            out.print(&FaultLine {
-                place: LONGEST,
-                number,
-            })
-        }
+        Err(why) => out.print(&FaultLine {
+            place: LONGEST,
+            number: why.number(),
+        }),
     }
 }
 
-fn each_command<O: Output>(
-    run: &mut Run,
+fn each_command<S: Session, O: Output>(
+    run: &mut S,
     reader: &mut Reader,
     sets: &mut [u16],
     numbers: &mut [u64],
     out: &mut O,
 ) -> Result<(), O::Error>
-    ensures { OnOk result (Interpreted O.Output.printed (record { sets = length sets.old; numbers = length numbers.old }) (read_from 0 reader.old.place (unread reader.old)) (progress run.old) out.old (progress run.new) out.new) }
+    ensures { (p : S.Progress) → S.stands run.old p → OnOk result (Interpreted S.effects S.stands O.Output.printed (record { sets = sets.old; numbers = numbers.old }) (read_from S.Command.forms 0 reader.old.place (unread reader.old)) p out.old run.new out.new (record { sets = sets.new; numbers = numbers.new })) }
 {
     loop {
         let place = reader.place();
         match reader.next() {
             Ok(None) => return Ok(()),
-            Ok(Some(command)) => answer(run, place, command, sets, numbers, out)?,
+            Ok(Some(command)) => run.answer(place, command, sets, numbers, out)?,
             Err(why) => {
-                let number = why.number();
-                return out.print(&FaultLine { place, number });
+                return out.print(&FaultLine {
+                    place,
+                    number: why.number(),
+                });
             }
-        }
-    }
-}
-
-fn answer<O: Output>(
-    run: &mut Run,
-    place: usize,
-    command: Command,
-    sets: &mut [u16],
-    numbers: &mut [u64],
-    out: &mut O,
-) -> Result<(), O::Error>
-    ensures now { progress run.new ≡ (step (record { sets = length sets.old; numbers = length numbers.old }) command (progress run.old)).1 }
-    ensures printed { OnOk result (Prints O.Output.printed out.old (line_of place (step (record { sets = length sets.old; numbers = length numbers.old }) command (progress run.old)).0) out.new) }
-{
-    match run.execute(command, sets, numbers) {
-        Ok(Reply::Silent) => Ok(()),
-        Ok(Reply::Tally(count)) => {
-            let line = TallyLine {
-                numbers: &numbers[0..count],
-            };
-            out.print(&line)
-        }
-        Ok(Reply::Signature(count)) => {
-            let line = SignatureLine {
-                numbers: &numbers[0..count],
-            };
-            out.print(&line)
-        }
-        Ok(Reply::Cuts(count)) => {
-            let line = CutsLine {
-                sets: &sets[0..count],
-            };
-            out.print(&line)
-        }
-        Err(fault) => {
-            let number = fault.number();
-            out.print(&FaultLine { place, number })
         }
     }
 }

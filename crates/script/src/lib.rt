@@ -2,6 +2,7 @@
 #![tactic(auto)]
 
 pub mod command;
+pub mod console;
 pub mod fault;
 pub mod interpreter;
 pub mod line;

@@ -1,57 +1,67 @@
 // The lines that a script prints, for whoever prints them.
-ghost use Rattle.std.specs.Prelude.{Some};
-ghost use Rattle.std.specs.Fmt.{DisplaysOnOk, option_append};
-ghost use Rattle.script.specs.Lines.{cuts_text, fault_text, signature_text, tally_text};
+ghost use Rattle.std.specs.Prelude.{◌≡◌, ℕ, List, Some, OnOk};
+ghost use Rattle.std.specs.Fmt.{option_append};
+ghost use Rattle.script.specs.Lines.{fault_text, letter_of};
 ghost use Rattle.script.specs.Rows.{row};
 
+use crate::output::Output;
 use std::fmt;
 
-// The minimal cuts of a station.
-#[derive(Clone, Copy)]
-pub struct CutsLine<'a> {
-    pub sets: &'a [u16],
+// What a row tells of a station: its path numbers, its signature, or its minimal cuts.
+#[derive(Clone, Copy, Debug, PartialEq, Eq)]
+pub enum RowKind {
+    Tally,
+    Signature,
+    Cuts,
 }
 
-// The path numbers of a station.
 #[derive(Clone, Copy)]
-pub struct TallyLine<'a> {
-    pub numbers: &'a [u64],
-}
-
-// The signature of a station.
-#[derive(Clone, Copy)]
-pub struct SignatureLine<'a> {
-    pub numbers: &'a [u64],
+pub struct RowLine<'a, N> {
+    pub kind: RowKind,
+    pub values: &'a [N],
 }
 
 // A fault, by the place of the command's first byte and its number.
 #[derive(Clone, Copy)]
 pub struct FaultLine {
     pub place: usize,
+    // Of a fault of either language, which are two types.
     pub number: u8,
 }
 
-impl fmt::Display for CutsLine<'_> {
-    ghost output = { λ line. Some (cuts_text line.sets.now) };
-
-    fn fmt<W: fmt::Write>(&self, f: &mut fmt::Formatter<W>) -> fmt::Result {
-        put_row(f, "M", self.sets)
+impl RowKind {
+    pub fn letter(self) -> &'static str
+        ensures { result.now ≡ letter_of self }
+    {
+        match self {
+            RowKind::Tally => "T",
+            RowKind::Signature => "S",
+            RowKind::Cuts => "M",
+        }
     }
 }
 
-impl fmt::Display for TallyLine<'_> {
-    ghost output = { λ line. Some (tally_text line.numbers.now) };
-
-    fn fmt<W: fmt::Write>(&self, f: &mut fmt::Formatter<W>) -> fmt::Result {
-        put_row(f, "T", self.numbers)
-    }
+// Prints a row as one line.
+pub fn print_row<N: fmt::Display, O: Output>(
+    kind: RowKind,
+    values: &[N],
+    out: &mut O,
+) -> Result<(), O::Error>
+    ensures { OnOk result ((t : List ℕ) → option_append (Some (letter_of kind)) (row N.output values.now) ≡ Some t → O.Output.printed out.old t out.new) }
+{
+    out.print(&RowLine { kind, values })
 }
 
-impl fmt::Display for SignatureLine<'_> {
-    ghost output = { λ line. Some (signature_text line.numbers.now) };
+impl<N: fmt::Display> fmt::Display for RowLine<'_, N> {
+    ghost output = { λ line. option_append (Some (letter_of line.kind)) (row N.output line.values.now) };
 
     fn fmt<W: fmt::Write>(&self, f: &mut fmt::Formatter<W>) -> fmt::Result {
-        put_row(f, "S", self.numbers)
+        let letter = self.kind.letter();
+        write!(f, "{letter}")?;
+        for value in self.values {
+            write!(f, " {value}")?;
+        }
+        Ok(())
     }
 }
 
@@ -63,19 +73,4 @@ impl fmt::Display for FaultLine {
         let number = self.number;
         write!(f, "! {place} {number}")
     }
-}
-
-// A word, then each value after a space.
-fn put_row<W: fmt::Write, N: fmt::Display>(
-    f: &mut fmt::Formatter<W>,
-    word: &str,
-    values: &[N],
-) -> fmt::Result
-    ensures { DisplaysOnOk W.write_str_gives f.old result (option_append (Some word.now) (row N.output values.now)) f.new }
-{
-    write!(f, "{word}")?;
-    for value in values {
-        write!(f, " {value}")?;
-    }
-    Ok(())
 }

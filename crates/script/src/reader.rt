@@ -1,7 +1,8 @@
 // Takes the commands of a script one by one from its bytes, for whoever runs it.
-ghost use Rattle.std.specs.Prelude.{◌≡◌, ◌+◌, ◌<◌, ◌≤◌, length, MatchResult};
+ghost use Rattle.std.specs.Prelude.{◌≡◌, ◌+◌, ◌<◌, ◌≤◌, List, length, MatchResult};
 ghost use Rattle.script.specs.declared.fault.Malformed.TheVariants.{Long};
-ghost use Rattle.script.specs.Reading.{front_of, command_of, size_of, Onward};
+ghost use Rattle.script.specs.Forms.{forms};
+ghost use Rattle.script.specs.Reading.{Form, front_of, command_of, size_of, Onward};
 ghost use Rattle.script.specs.Readers.{whole, unread};
 
 use crate::command::Command;
@@ -9,6 +10,15 @@ use crate::fault::Malformed;
 
 // The most bytes that a script may have.
 pub const LONGEST: usize = 4096;
+
+// The commands of one language.
+pub trait Parse: Copy {
+    ghost forms: { List (Form Self) };
+
+    // The command at the front, and how many bytes it takes.
+    fn front(bytes: &[u8]) -> Result<Option<(Self, usize)>, Malformed>
+        ensures { result ≡ front_of forms bytes.now };
+}
 
 #[derive(Drop)]
 pub struct Reader<'a> {
@@ -34,13 +44,13 @@ impl<'a> Reader<'a> {
     }
 
     // Passes the next command, or stays where it is.
-    pub fn next(&mut self) -> Result<Option<Command>, Malformed>
-        ensures answer { result ≡ command_of (front_of (unread self.old)) }
-        ensures place { self.new.place ≡ self.old.place + size_of (front_of (unread self.old)) }
+    pub fn next<C: Parse>(&mut self) -> Result<Option<C>, Malformed>
+        ensures answer { result ≡ command_of (front_of C.forms (unread self.old)) }
+        ensures place { self.new.place ≡ self.old.place + size_of (front_of C.forms (unread self.old)) }
         ensures kept { whole self.new ≡ whole self.old }
         ensures onward { Onward result self.old.place self.new.place (length (whole self.old)) }
     {
-        let Some((command, size)) = front(self.rest())? else {
+        let Some((command, size)) = C::front(self.rest())? else {
             return Ok(None);
         };
         self.place += size;
@@ -50,30 +60,27 @@ impl<'a> Reader<'a> {
     fn rest(&self) -> &'a [u8]
         ensures { result.now ≡ unread self.now }
     {
-        match self.bytes.get(self.place..) {
-            Some(rest) => rest,
-            None => &[],
-        }
+        self.bytes.get(self.place..).unwrap_or(&[])
     }
 }
 
-// The command at the front, and how many bytes it takes.
-fn front(bytes: &[u8]) -> Result<Option<(Command, usize)>, Malformed>
-    ensures value { result ≡ front_of bytes.now }
-    ensures within { Onward (command_of result) 0 (size_of result) (length bytes.now) }
-{
-    match bytes {
-        [] => Ok(None),
-        [b'N', order, ..] => Ok(Some((Command::Start { order: *order }, 2))),
-        [b'P', high, low, ..] => {
-            let set = u16::from_be_bytes([*high, *low]);
-            Ok(Some((Command::Add { set }, 3)))
+impl Parse for Command {
+    ghost forms = { forms };
+
+    fn front(bytes: &[u8]) -> Result<Option<(Command, usize)>, Malformed> {
+        match bytes {
+            [] => Ok(None),
+            [b'N', order, ..] => Ok(Some((Command::Start { order: *order }, 2))),
+            [b'P', high, low, ..] => {
+                let set = u16::from_be_bytes([*high, *low]);
+                Ok(Some((Command::Add { set }, 3)))
+            }
+            [b'O', ..] => Ok(Some((Command::Open, 1))),
+            [b'T', ..] => Ok(Some((Command::Tally, 1))),
+            [b'S', ..] => Ok(Some((Command::Signature, 1))),
+            [b'M', ..] => Ok(Some((Command::Cuts, 1))),
+            [b'N' | b'P', ..] => Err(Malformed::Short),
+            [_, ..] => Err(Malformed::Unknown),
         }
-        [b'O', ..] => Ok(Some((Command::Open, 1))),
-        [b'T', ..] => Ok(Some((Command::Tally, 1))),
-        [b'S', ..] => Ok(Some((Command::Signature, 1))),
-        [b'M', ..] => Ok(Some((Command::Cuts, 1))),
-        [b'N' | b'P', ..] => Err(Malformed::Short),
-        [_, ..] => Err(Malformed::Unknown),
     }
 }

@@ -1,4 +1,4 @@
-// What an accepted command answers: nothing, or how many of the lent places now hold it.
+// What an accepted command answers: nothing, or how many of the lent places now hold it. A count and no slice: a reply that borrowed the places could not tell what they hold.
 #[derive(Clone, Copy, Debug, PartialEq, Eq)]
 pub enum Reply {
     Silent,

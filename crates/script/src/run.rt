@@ -9,13 +9,15 @@ use crate::stage::Stage;
 use structure::path_list::PathList;
 use structure::table::Table;
 
+mod answers;
 pub mod calls;
 
 #[derive(Drop)]
 pub struct Run {
+    // A plain tag: one match on it and the command serves all stages.
     stage: Stage,
     drawn: PathList,
     opened: Table,
-    ghost order: { is_open stage ≡ true → opened.order ≡ drawn.list.order },
-    ghost works: { (s : ℕ) → (is_open stage ≡ true) × (s < 2 ^ drawn.list.order) → entry opened.words s ≡ (path_list (drawing drawn.list)).works s },
+    ghost order: { is_open stage ≡ true → opened.order.parts ≡ drawn.list.order.parts },
+    ghost works: { (s : ℕ) → (is_open stage ≡ true) × (s < 2 ^ drawn.list.order.parts) → entry opened.words s ≡ (path_list (drawing drawn.list)).works s },
 }

@@ -1,13 +1,7 @@
 // Starting a run, and carrying out one command of it.
-ghost use Rattle.std.specs.Prelude.{◌≡◌, ℕ, List, length};
-ghost use Rattle.analysis.specs.declared.role.Role.TheVariants.{Cut};
-ghost use Rattle.analysis.specs.Minimal.{minimal_sets};
-ghost use Rattle.analysis.specs.Orders.{signature_of};
-ghost use Rattle.analysis.specs.PathNumbers.{path_numbers};
-ghost use Rattle.analysis.specs.Places.{laid, laid_whole};
-ghost use Rattle.book.specs.Books.{stands};
-ghost use Rattle.book_script.specs.Language.{Progress, answered, begun, cuts, if_room, signature, tally};
-ghost use Rattle.book_script.specs.Runs.{Executed, Inside, Stands, said, silent_or};
+ghost use Rattle.std.specs.Prelude.{◌≡◌, length};
+ghost use Rattle.book_script.specs.Language.{Progress, begun};
+ghost use Rattle.book_script.specs.Runs.{Executed, Inside, Stands, silent_or};
 
 use super::Run;
 use crate::command::Command;
@@ -47,7 +41,7 @@ impl Run {
     {
         match (self.stage, command) {
             (Stage::Blank, Command::Start { order }) => {
-                self.drawn.start(order as usize)?;
+                self.drawn.start(usize::from(order))?;
                 self.stage = Stage::Drawing;
                 Ok(Reply::Silent)
             }
@@ -61,17 +55,23 @@ impl Run {
                 Ok(Reply::Silent)
             }
             (Stage::Open, Command::Rate { part, rating }) => {
-                done(self.book.rate(part as usize, rating))
+                done(self.book.rate(usize::from(part), rating))
             }
             (Stage::Open, Command::Price { part, price }) => {
-                done(self.book.price(part as usize, price as u32))
+                done(self.book.price(usize::from(part), u32::from(price)))
             }
-            (Stage::Open, Command::Withdraw { part }) => done(self.book.withdraw(part as usize)),
-            (Stage::Open, Command::PutBack { part }) => done(self.book.put_back(part as usize)),
+            (Stage::Open, Command::Withdraw { part }) => done(
+                self.book.withdraw(usize::from(part)),
+            ),
+            (Stage::Open, Command::PutBack { part }) => done(self.book.put_back(usize::from(part))),
             (Stage::Open, Command::Figure) => Ok(Reply::Figure(self.book.figure())),
-            (Stage::Open, Command::Tally) => tell_tally(&self.book, numbers),
-            (Stage::Open, Command::Signature) => tell_signature(&self.book, numbers),
-            (Stage::Open, Command::Cuts) => tell_cuts(&self.book, sets),
+            (Stage::Open, Command::Tally) => Ok(Reply::Tally(tally(&self.book, numbers)?)),
+            (Stage::Open, Command::Signature) => {
+                Ok(Reply::Signature(signature(&self.book, numbers)?))
+            }
+            (Stage::Open, Command::Cuts) => {
+                Ok(Reply::Cuts(minimal_sets(&self.book, Role::Cut, sets)?))
+            }
             _ => Err(Fault::Stage),
         }
     }
@@ -83,31 +83,4 @@ fn done(res: Result<(), Refusal>) -> Result<Reply, Fault>
 {
     res?;
     Ok(Reply::Silent)
-}
-
-fn tell_tally(book: &Book, places: &mut [u64]) -> Result<Reply, Fault>
-    ensures answer { (sets : List ℕ) → said result sets places.new ≡ answered tally (if_room (length places.old) (path_numbers (stands book.now))) }
-    ensures places { places.new ≡ laid_whole (path_numbers (stands book.now)) places.old }
-    ensures within { (sets : ℕ) → Inside result sets (length places.new) }
-{
-    let count = tally(book, places)?;
-    Ok(Reply::Tally(count))
-}
-
-fn tell_signature(book: &Book, places: &mut [u64]) -> Result<Reply, Fault>
-    ensures answer { (sets : List ℕ) → said result sets places.new ≡ answered signature (if_room (length places.old) (signature_of (stands book.now))) }
-    ensures places { places.new ≡ laid_whole (signature_of (stands book.now)) places.old }
-    ensures within { (sets : ℕ) → Inside result sets (length places.new) }
-{
-    let count = signature(book, places)?;
-    Ok(Reply::Signature(count))
-}
-
-fn tell_cuts(book: &Book, places: &mut [u16]) -> Result<Reply, Fault>
-    ensures answer { (numbers : List ℕ) → said result places.new numbers ≡ answered cuts (if_room (length places.old) (minimal_sets Cut (stands book.now))) }
-    ensures places { places.new ≡ laid (minimal_sets Cut (stands book.now)) places.old }
-    ensures within { (numbers : ℕ) → Inside result (length places.new) numbers }
-{
-    let count = minimal_sets(book, Role::Cut, places)?;
-    Ok(Reply::Cuts(count))
 }

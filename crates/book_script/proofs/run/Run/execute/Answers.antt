@@ -1,6 +1,17 @@
-use Rattle.std.proofs.Common.{◌≡◌, rules}
+use Rattle.std.proofs.Common.{◌≡◌, sym, ap, ◌∙◌, rules}
+use Rattle.std.proofs.lemmas.Result.{err_from_is_err_and}
+use Rattle.analysis.specs.declared.role.Role.TheVariants.{Cut}
+use Rattle.analysis.specs.Minimal.{minimal_sets}
+use Rattle.analysis.specs.Orders.{signature_of}
+use Rattle.analysis.specs.PathNumbers.{path_numbers}
+use Rattle.analysis.specs.Places.{done_or_too_few}
+use Rattle.script.specs.Rooms.{answered}
+use Rattle.script.proofs.Listed.{found_room, found_none, laid_whole_lem, rows_long}
+use Rattle.book_script.specs.declared.fault.Fault.TheVariants.{Station}
+use Rattle.book_script.specs.declared.fault.StationRefusal.TheVariants.{Analysis}
+use Rattle.book_script.specs.Language.{cuts, signature, tally}
 use Rattle.sheet.specs.Sheets.{rated, priced, taken_out, put_back}
-use Rattle.book.specs.Books.{opened, entered, book_figure}
+use Rattle.book.specs.Books.{opened, entered, stands, book_figure}
 use Rattle.book.specs.Entries.{altered, repriced}
 use Rattle.book_script.proofs.Opened.{counts_none, rate_executed, price_executed, withdraw_executed, put_back_executed, figure_executed, tally_executed, signature_executed, cuts_executed}
 use Rattle.book_script.proofs.run.Run.execute.Goals as goal
@@ -55,26 +66,65 @@ returns-in-Open-Figure c = record {
   within = tt;
 }
 
-pub returns-in-Open-Tally : goal.returns-in-Open-Tally
-returns-in-Open-Tally c = record {
-  executed = λ p stood.
-      tally_executed c.args.self.now c.in-Open-Tally.is-0 p stood c.args.command c.args.sets.now c.args.numbers.now c.tell_tally.new.places c.tell_tally.result
-      c.in-Open-Tally.is-1 (c.tell_tally.ensures.answer c.args.sets.now) c.tell_tally.ensures.places;
-  within = c.tell_tally.ensures.within _;
-}
+pub returns-in_err-tally-in-Open-Tally : goal.returns-in_err-tally-in-Open-Tally
+returns-in_err-tally-in-Open-Tally c =
+    let out = err_from_is_err_and c.from_residual-in_err-tally-in-Open-Tally.result c.from_residual-in_err-tally-in-Open-Tally.ensures.1 in
+    let told = found_none (λ why. Station (Analysis why)) (path_numbers (stands c.args.self.now.book)) c.args.numbers.now c.in_err-tally-in-Open-Tally.field-0.0 (c.in_err-tally-in-Open-Tally.ensures.answer ∙ ap (λ k. done_or_too_few k c.args.numbers.now) (sym (rows_long _ _))) in
+    rw (out.1, out.2) (record {
+      executed = λ p stood.
+          tally_executed c.args.self.now c.in-Open-Tally.is-0 p stood c.args.command c.args.sets.now c.args.numbers.now c.tally.new.places _
+          c.in-Open-Tally.is-1 (ap (answered tally) told) c.tally.ensures.places;
+      within = tt;
+    })
 
-pub returns-in-Open-Signature : goal.returns-in-Open-Signature
-returns-in-Open-Signature c = record {
-  executed = λ p stood.
-      signature_executed c.args.self.now c.in-Open-Signature.is-0 p stood c.args.command c.args.sets.now c.args.numbers.now c.tell_signature.new.places c.tell_signature.result
-      c.in-Open-Signature.is-1 (c.tell_signature.ensures.answer c.args.sets.now) c.tell_signature.ensures.places;
-  within = c.tell_signature.ensures.within _;
-}
+pub returns-in_ok-tally-in-Open-Tally : goal.returns-in_ok-tally-in-Open-Tally
+returns-in_ok-tally-in-Open-Tally c =
+    let told = found_room (λ why. Station (Analysis why)) (path_numbers (stands c.args.self.now.book)) c.args.numbers.now c.tally.new.places c.in_ok-tally-in-Open-Tally.field-0 (λ fits. c.tally.ensures.places ∙ laid_whole_lem _ _ fits) (c.in_ok-tally-in-Open-Tally.ensures.answer ∙ ap (λ k. done_or_too_few k c.args.numbers.now) (sym (rows_long _ _))) in
+    record {
+      executed = λ p stood.
+          tally_executed c.args.self.now c.in-Open-Tally.is-0 p stood c.args.command c.args.sets.now c.args.numbers.now c.tally.new.places _
+          c.in-Open-Tally.is-1 (ap (answered tally) told.0) c.tally.ensures.places;
+      within = told.1;
+    }
 
-pub returns-in-Open-Cuts : goal.returns-in-Open-Cuts
-returns-in-Open-Cuts c = record {
-  executed = λ p stood.
-      cuts_executed c.args.self.now c.in-Open-Cuts.is-0 p stood c.args.command c.args.sets.now c.args.numbers.now c.tell_cuts.new.places c.tell_cuts.result
-      c.in-Open-Cuts.is-1 (c.tell_cuts.ensures.answer c.args.numbers.now) c.tell_cuts.ensures.places;
-  within = c.tell_cuts.ensures.within _;
-}
+pub returns-in_err-signature-in-Open-Signature : goal.returns-in_err-signature-in-Open-Signature
+returns-in_err-signature-in-Open-Signature c =
+    let out = err_from_is_err_and c.from_residual-in_err-signature-in-Open-Signature.result c.from_residual-in_err-signature-in-Open-Signature.ensures.1 in
+    let told = found_none (λ why. Station (Analysis why)) (signature_of (stands c.args.self.now.book)) c.args.numbers.now c.in_err-signature-in-Open-Signature.field-0.0 (c.in_err-signature-in-Open-Signature.ensures.answer ∙ ap (λ k. done_or_too_few k c.args.numbers.now) (sym (rows_long _ _))) in
+    rw (out.1, out.2) (record {
+      executed = λ p stood.
+          signature_executed c.args.self.now c.in-Open-Signature.is-0 p stood c.args.command c.args.sets.now c.args.numbers.now c.signature.new.places _
+          c.in-Open-Signature.is-1 (ap (answered signature) told) c.signature.ensures.places;
+      within = tt;
+    })
+
+pub returns-in_ok-signature-in-Open-Signature : goal.returns-in_ok-signature-in-Open-Signature
+returns-in_ok-signature-in-Open-Signature c =
+    let told = found_room (λ why. Station (Analysis why)) (signature_of (stands c.args.self.now.book)) c.args.numbers.now c.signature.new.places c.in_ok-signature-in-Open-Signature.field-0 (λ fits. c.signature.ensures.places ∙ laid_whole_lem _ _ fits) (c.in_ok-signature-in-Open-Signature.ensures.answer ∙ ap (λ k. done_or_too_few k c.args.numbers.now) (sym (rows_long _ _))) in
+    record {
+      executed = λ p stood.
+          signature_executed c.args.self.now c.in-Open-Signature.is-0 p stood c.args.command c.args.sets.now c.args.numbers.now c.signature.new.places _
+          c.in-Open-Signature.is-1 (ap (answered signature) told.0) c.signature.ensures.places;
+      within = told.1;
+    }
+
+pub returns-in_err-minimal_sets-in-Open-Cuts : goal.returns-in_err-minimal_sets-in-Open-Cuts
+returns-in_err-minimal_sets-in-Open-Cuts c =
+    let out = err_from_is_err_and c.from_residual-in_err-minimal_sets-in-Open-Cuts.result c.from_residual-in_err-minimal_sets-in-Open-Cuts.ensures.1 in
+    let told = found_none (λ why. Station (Analysis why)) (minimal_sets Cut (stands c.args.self.now.book)) c.args.sets.now c.in_err-minimal_sets-in-Open-Cuts.field-0.0 c.in_err-minimal_sets-in-Open-Cuts.ensures.answer in
+    rw (out.1, out.2) (record {
+      executed = λ p stood.
+          cuts_executed c.args.self.now c.in-Open-Cuts.is-0 p stood c.args.command c.args.sets.now c.args.numbers.now c.minimal_sets.new.places _
+          c.in-Open-Cuts.is-1 (ap (answered cuts) told) c.minimal_sets.ensures.places;
+      within = tt;
+    })
+
+pub returns-in_ok-minimal_sets-in-Open-Cuts : goal.returns-in_ok-minimal_sets-in-Open-Cuts
+returns-in_ok-minimal_sets-in-Open-Cuts c =
+    let told = found_room (λ why. Station (Analysis why)) (minimal_sets Cut (stands c.args.self.now.book)) c.args.sets.now c.minimal_sets.new.places c.in_ok-minimal_sets-in-Open-Cuts.field-0 (λ _. c.minimal_sets.ensures.places) c.in_ok-minimal_sets-in-Open-Cuts.ensures.answer in
+    record {
+      executed = λ p stood.
+          cuts_executed c.args.self.now c.in-Open-Cuts.is-0 p stood c.args.command c.args.sets.now c.args.numbers.now c.minimal_sets.new.places _
+          c.in-Open-Cuts.is-1 (ap (answered cuts) told.0) c.minimal_sets.ensures.places;
+      within = told.1;
+    }

@@ -1,6 +1,0 @@
-use Rattle.std.proofs.Common.{rules}
-use Rattle.book_script.proofs.Rows.{row_numbers}
-use Rattle.book_script.proofs.line.SignatureLineDisplay.fmt.Goals as goal
-
-pub returns-clause-writes : goal.returns-clause-writes
-returns-clause-writes g c = search (rules, row_numbers)

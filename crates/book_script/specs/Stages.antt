@@ -1,9 +1,0 @@
--- The stages of a script. Assumes nothing.
-use Rattle.std.specs.Prelude.{Bool, true, false}
-use Rattle.book_script.specs.declared.stage.Stage.{Stage}
-use Rattle.book_script.specs.declared.stage.Stage.TheVariants.{Blank, Drawing, Open}
-
-abbrev pub is_open : Stage → Bool
-is_open Blank = false
-is_open Drawing = false
-is_open Open = true
