@@ -4,7 +4,7 @@ use Rattle.book.specs.declared.answer.Reply.TheVariants.{Weighed}
 use Rattle.book.specs.Answers.{weighed_unless, weigh_refused_with}
 use Rattle.book.specs.Books.{stands}
 use Rattle.book.proofs.LentSlots.{lent_spared}
-use Rattle.book.proofs.Replaying.{book_rated, book_priced, book_taken_out, book_put_back, book_figure_lem, book_importance_lem, book_weighed, importance_said}
+use Rattle.book.proofs.Replaying.{book_rated, book_priced, book_figure_lem, book_importance_lem, book_weighed, importance_said}
 use Rattle.book.proofs.replay.answer.Goals as goal
 
 pub returns-in-Rate-clause-follows : goal.returns-in-Rate-clause-follows
@@ -15,16 +15,6 @@ returns-in-Rate-clause-follows g c m past saw =
 pub returns-in-Price-clause-follows : goal.returns-in-Price-clause-follows
 returns-in-Price-clause-follows g c m past saw =
     let told = book_priced c.args.book.now saw c.price.new.self c.price.result c.done-in-Price.result c.price.ensures.opened c.done-in-Price.ensures c.in-Price.part c.in-Price.price c.price.ensures.entered in
-    search rules
-
-pub returns-in-Withdraw-clause-follows : goal.returns-in-Withdraw-clause-follows
-returns-in-Withdraw-clause-follows g c m past saw =
-    let told = book_taken_out c.args.book.now saw c.withdraw.new.self c.withdraw.result c.done-in-Withdraw.result c.withdraw.ensures.opened c.done-in-Withdraw.ensures c.in-Withdraw.part c.withdraw.ensures.entered in
-    search rules
-
-pub returns-in-PutBack-clause-follows : goal.returns-in-PutBack-clause-follows
-returns-in-PutBack-clause-follows g c m past saw =
-    let told = book_put_back c.args.book.now saw c.put_back.new.self c.put_back.result c.done-in-PutBack.result c.put_back.ensures.opened c.done-in-PutBack.ensures c.in-PutBack.part c.put_back.ensures.entered in
     search rules
 
 pub returns-in-Figure-clause-follows : goal.returns-in-Figure-clause-follows
