@@ -3,6 +3,7 @@
 
 pub mod coherence;
 pub mod listing;
+pub mod listing_of;
 pub mod minimal;
 pub mod minimal_sets;
 pub mod redraw;

@@ -1,44 +1,38 @@
 // Goes through the minimal sets of a structure in the order in which they are listed.
 ghost use Rattle.std.specs.Prelude.{◌≡◌};
-ghost use Rattle.std.specs.Iterator.{YieldsFirst, item_count};
 ghost use Rattle.structure.specs.Meanings.{Meaning};
-ghost use Rattle.analysis.specs.Listing.{ahead};
+ghost use Rattle.analysis.specs.Listing.{ahead, first, others};
 ghost use Rattle.analysis.specs.Minimal.{minimal_sets};
 
 use crate::minimal::is_minimal;
 use crate::role::Role;
 use structure::structure::Structure;
 
-#[derive(Drop)]
-#[derive_where(Clone, Copy)]
-pub struct Listing<'a, S> {
-    structure: &'a S,
+// Holds no structure: each step is lent one, which may have changed since the last, or be another.
+#[derive(Clone, Copy)]
+pub struct Listing {
     role: Role,
     next: u32,
 }
 
-impl<'a, S: Structure> Listing<'a, S> {
-    pub fn new(structure: &'a S, role: Role) -> Self
-        ensures { (meaning : S → Meaning) → ahead meaning result ≡ minimal_sets role (meaning structure.now) }
+impl Listing {
+    pub fn new(role: Role) -> Self
+        ensures { (m : Meaning) → ahead result m ≡ minimal_sets role m }
     {
-        Listing {
-            structure,
-            role,
-            next: 0,
-        }
+        Listing { role, next: 0 }
     }
-}
 
-impl<'a, S: Structure> Iterator for Listing<'a, S> {
-    type Item = u16;
-
-    ghost next_gives = { YieldsFirst (ahead S.Structure.meaning) };
-
-    ghost remaining = { item_count (ahead S.Structure.meaning) };
-
-    fn next(&mut self) -> Option<u16> {
-        let end = 1 << self.structure.order();
-        let set = (self.next..end).find(|set| is_minimal(self.structure, self.role, *set))?;
+    pub fn next<S: Structure>(&mut self, structure: &S) -> Option<u16>
+        ensures item { result ≡ first (ahead self.old (S.Structure.meaning structure.now)) }
+        ensures rest { ahead self.new (S.Structure.meaning structure.now) ≡ others (ahead self.old (S.Structure.meaning structure.now)) }
+    {
+        let end = 1 << structure.order();
+        let role = self.role;
+        let Some(set) = (self.next..end).find(|set| is_minimal(structure, role, *set)) else {
+            // A step past the last set then asks the structure nothing.
+            self.next = self.next.max(end);
+            return None;
+        };
         self.next = set + 1;
         // A set of 16 parts fits: `try_from` would add an end that never comes.
         Some(set as u16)

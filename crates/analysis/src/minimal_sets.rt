@@ -3,7 +3,7 @@ ghost use Rattle.std.specs.Prelude.{◌≡◌, length, slice_set};
 ghost use Rattle.analysis.specs.Minimal.{minimal_sets};
 ghost use Rattle.analysis.specs.Places.{laid, done_or_too_few};
 
-use crate::listing::Listing;
+use crate::listing_of::ListingOf;
 use crate::refusal::Refusal;
 use crate::role::Role;
 use crate::room::enough;
@@ -22,7 +22,7 @@ pub fn minimal_sets<S: Structure>(
     ensures places { places.new ≡ laid (minimal_sets role (S.Structure.meaning structure.now)) places.old }
 {
     let mut needed = 0;
-    for (at, set) in Listing::new(structure, role).enumerate() {
+    for (at, set) in ListingOf::new(structure, role).enumerate() {
         put(places, at, set);
         needed = at + 1;
     }

@@ -5,7 +5,7 @@ ghost use Rattle.analysis.specs.declared.role.Role.TheVariants.{Path, Cut};
 ghost use Rattle.analysis.specs.Minimal.{minimal_sets};
 ghost use Rattle.analysis.specs.Redrawing.{Drawn, WorksAs};
 
-use crate::listing::Listing;
+use crate::listing_of::ListingOf;
 use crate::role::Role;
 use structure::cut_list::CutList;
 use structure::path_list::PathList;
@@ -34,7 +34,7 @@ fn draw<S: Structure>(structure: &S, role: Role) -> Result<SetList, Refusal>
 {
     let mut list = SetList::new();
     list.start(structure.order())?;
-    for set in Listing::new(structure, role) {
+    for set in ListingOf::new(structure, role) {
         list.add(set)?;
     }
     Ok(list)

@@ -1,4 +1,6 @@
 // Structures, piles of layers and their minimal sets.
+use analysis::listing::Listing;
+use analysis::listing_of::ListingOf;
 use analysis::minimal_sets::minimal_sets;
 use analysis::redraw::redraw_cuts;
 use analysis::refusal::Refusal;
@@ -12,6 +14,7 @@ use structure::dual::Dual;
 use structure::hold::Hold;
 use structure::k_out_of_n::KOutOfN;
 use structure::pair::{Pair, Rule};
+use structure::path_list::PathList;
 use structure::structure::Structure;
 use structure::table::Table;
 
@@ -52,6 +55,23 @@ fn cuts_of_two_of_three(rt: HostRuntime) -> Result<(), Fail> {
     let redrawn = redraw_cuts(&station)?;
     assert!(rt; redrawn.works(0b110));
     assert!(rt; !redrawn.works(0b010));
+    Ok(())
+}
+
+// Made before there is a station, which then changes, and another one takes its place.
+#[test]
+fn a_listing_goes_on(rt: HostRuntime) -> Result<(), Fail> {
+    let mut listing = Listing::new(Role::Path);
+    let mut drawn = PathList::new();
+    drawn.start(3)?;
+    drawn.add(0b001)?;
+    assert_eq!(rt; listing.next(&drawn), Some(0b001));
+    drawn.add(0b110)?;
+    assert_eq!(rt; listing.next(&drawn), Some(0b110));
+    assert_eq!(rt; listing.next(&drawn), None);
+    assert_eq!(rt; listing.next(&drawn), None);
+    assert_eq!(rt; listing.next(&KOutOfN::new(4, 1)?), Some(0b1000));
+    assert_eq!(rt; ListingOf::new(&drawn, Role::Cut).next(), Some(0b011));
     Ok(())
 }
 
