@@ -45,7 +45,11 @@ impl Row {
     pub(crate) fn set_price(&mut self, price: u32) -> Result<(), Refusal>
         ensures { (result, self.new) ≡ row_priced price self.old }
     {
-        self.price = u16::try_from(price).map_err(|_| Refusal::Price)?;
+        if price > MAX_PRICE {
+            return Err(Refusal::Price);
+        }
+        // Not by `try_from`, which would leave the constant to say what it likes.
+        self.price = price as u16;
         Ok(())
     }
 

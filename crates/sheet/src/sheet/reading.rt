@@ -6,6 +6,7 @@ ghost use Rattle.sheet.specs.Sheets.{page, row_if_any, failed_parts, HasFailed};
 
 use super::Sheet;
 use crate::row::Row;
+use std::array;
 use structure::structure::MAX_ORDER;
 
 impl Sheet {
@@ -39,13 +40,13 @@ impl Sheet {
         ensures value { result ≡ map rating_in_force (page self.now).rows }
         ensures bounded { (i : ℕ) → slice_index result i ≤ 65536 }
     {
-        self.rows.map(|row| row.rating_in_force())
+        array::from_fn(|part| self.rows[part].rating_in_force())
     }
 
     pub(crate) fn prices(&self) -> [u16; MAX_ORDER]
         ensures { result ≡ prices_of (page self.now) }
     {
-        self.rows.map(|row| row.price())
+        array::from_fn(|part| self.rows[part].price())
     }
 
     // Of the rows, those of parts.
