@@ -3,7 +3,7 @@ use Rattle.std.proofs.Common.{◌≡◌, ℕ, ◌<◌, ◌≤◌, Bool, true, fa
 use Rattle.std.proofs.lemmas.Bool.{cases_Bool, both_ways, cond-true, cond-false, cond_both, eqb-true, ltb-true, ltb-false}
 use Rattle.sheet.specs.declared.refusal.Refusal.{Refusal}
 use Rattle.sheet.specs.declared.refusal.Refusal.TheVariants.{Part, Rating}
-use Rattle.book.specs.History.{Deed, Rate, SetPrice, Withdraw, PutBack, AskFigure, withdrawn, rating, verdict, next, noted}
+use Rattle.book.specs.History.{Deed, Rate, SetPrice, Withdraw, PutBack, AskFigure, withdrawn, rating, verdict, next, noted, accepted}
 
 -- each call of the past was accepted when it was made
 abbrev pub Sound : ℕ → List Deed → Type 0
@@ -28,6 +28,10 @@ noted_sound n past deed (Some why) e sound = sound
 
 pub next_sound : (n : ℕ) (past : List Deed) (deed : Deed) → Sound n past → Sound n (next n past deed)
 next_sound n past deed = noted_sound n past deed (verdict n past deed) refl
+
+pub accepted_sound : (n : ℕ) (past deeds : List Deed) → Sound n past → Sound n (accepted n past deeds)
+accepted_sound n past [] sound = sound
+accepted_sound n past (deed ∷ deeds) sound = accepted_sound n (next n past deed) deeds (next_sound n past deed sound)
 
 -- no accepted rating is over 65,536
 pub rating_most : (n : ℕ) (past : List Deed) → Sound n past → (part : ℕ) → rating past part ≤ 65536

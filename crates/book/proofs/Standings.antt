@@ -1,16 +1,18 @@
 -- The station as it stands after a history: its marks, its ratings and its figure. Assumes nothing.
-use Rattle.std.proofs.Common.{◌≡◌, ℕ, zero, suc, ◌+◌, ◌^◌, ◌<◌, ◌≤◌, Bool, cond, List, length, get_or, take, sym, refl, ap, ◌∙◌, ap₂, ⊎_elim, zero-add, arith}
+use Rattle.std.proofs.Common.{◌≡◌, ℕ, zero, suc, ◌+◌, ◌^◌, ◌<◌, ◌≤◌, Bool, true, false, cond, List, ◌∷◌, length, get_or, take, sym, refl, ap, ◌∙◌, ap₂, ⊎_elim, pow-suc, zero-add, arith}
 use Rattle.std.proofs.lemmas.List.{length-map, get_or-map, get_or_past, get_or-take, length-take-le, same_lists, get_or_default}
-use Rattle.std.proofs.lemmas.Bool.{cases_lt}
+use Rattle.std.proofs.lemmas.Bool.{cases_lt, both_ways}
+use Rattle.structure.specs.Layers.{hold}
 use Rattle.structure.specs.Meanings.{Meaning, Sized, Monotone}
 use Rattle.structure.specs.LayersLemmas.{hold_monotone}
 use Rattle.analysis.specs.Minimal.{rising}
 use Rattle.analysis.proofs.Rising.{length_rising}
-use Rattle.sheet.specs.Figure.{floor, Rated, Rises, WorksWherever}
-use Rattle.book.specs.History.{Deed, rating}
+use Rattle.sheet.specs.Figure.{figure_of, floor, Rated, Rises, WorksWherever}
+use Rattle.book.specs.History.{Deed, Rate, SetPrice, Withdraw, PutBack, AskFigure, withdrawn, rating}
 use Rattle.sheet.specs.Reliability.{Close}
 use Rattle.sheet.specs.Sheets.{set_of}
 use Rattle.book.specs.Standing.{standing, ratings, figure_after}
+use Rattle.book.specs.Told.{changes}
 use Rattle.book.proofs.Acceptance.{Sound, rating_most}
 use Rattle.sheet.proofs.Closeness.{close}
 use Rattle.sheet.proofs.Values.{never_below}
@@ -21,6 +23,14 @@ pub set_of_same : (f g : ℕ → Bool) (n : ℕ) → ((i : ℕ) → i < n → f 
 set_of_same f g zero same = refl
 set_of_same f g (suc n) same =
     ap₂ (λ x b. x + cond b (2 ^ n) 0) (set_of_same f g n (λ i h. same i (omega arith))) (same n (omega arith))
+
+one_part : (b : Bool) (n : ℕ) → cond b (2 ^ n) 0 ≤ 2 ^ n
+one_part true n = omega arith
+one_part false n = omega arith
+
+pub set_of_below : (test : ℕ → Bool) (n : ℕ) → set_of test n < 2 ^ n
+set_of_below test zero = omega arith
+set_of_below test (suc n) = omega (arith, set_of_below test n, one_part (test n) n, pow-suc 2 n)
 
 -- ---- ratings by part
 
@@ -57,6 +67,19 @@ ratings_taken n past xs long same =
     ∙ get_or_default (ratings n past) part 0 d (omega (arith, ratings_long n past)))
 
 -- ---- figures
+
+-- a walk over what a sheet holds gives the figure after the history that it agrees with
+pub figure_walked : (m : Meaning) (past : List Deed) (failed : ℕ) (xs : List ℕ) → failed ≡ set_of (withdrawn past) m.order → m.order ≤ length xs → ((part : ℕ) → part < m.order → get_or xs part 0 ≡ rating past part) → figure_of floor (hold failed m) (take m.order xs) ≡ figure_after floor m past
+figure_walked m past failed xs same long each =
+    ap₂ (λ set rs. figure_of floor (hold set m) rs) same (ratings_taken m.order past xs long each)
+
+-- a call that changes no mark and no rating changes no figure
+pub figure_kept : (round : ℕ → ℕ) (m : Meaning) (deed : Deed) (past : List Deed) → changes deed ≡ false → figure_after round m (deed ∷ past) ≡ figure_after round m past
+figure_kept round m (Rate p r) past e = absurd (both_ways true e refl)
+figure_kept round m (SetPrice p x) past e = refl
+figure_kept round m (Withdraw p) past e = absurd (both_ways true e refl)
+figure_kept round m (PutBack p) past e = absurd (both_ways true e refl)
+figure_kept round m AskFigure past e = refl
 
 pub figure_close : (m : Meaning) (past : List Deed) → Sized m → Sound m.order past → Close (standing m past) (ratings m.order past) (figure_after floor m past)
 figure_close m past sized sound =
