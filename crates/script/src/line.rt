@@ -1,6 +1,6 @@
 // The lines that a script prints, for whoever prints them.
 ghost use Rattle.std.specs.Prelude.{◌≡◌, ℕ, List, Some, OnOk};
-ghost use Rattle.std.specs.Fmt.{option_append};
+ghost use Rattle.std.specs.Fmt.{DisplaysOnOk, option_append};
 ghost use Rattle.script.specs.Lines.{fault_text, letter_of};
 ghost use Rattle.script.specs.Rows.{row};
 
@@ -41,7 +41,8 @@ impl RowKind {
     }
 }
 
-// Prints a row as one line.
+// Prints a row as one line. Inline, as the values below are not, so that no row takes more stack than a fault.
+#[inline(always)]
 pub fn print_row<N: fmt::Display, O: Output>(
     kind: RowKind,
     values: &[N],
@@ -56,13 +57,24 @@ impl<N: fmt::Display> fmt::Display for RowLine<'_, N> {
     ghost output = { λ line. option_append (Some (letter_of line.kind)) (row N.output line.values.now) };
 
     fn fmt<W: fmt::Write>(&self, f: &mut fmt::Formatter<W>) -> fmt::Result {
-        let letter = self.kind.letter();
-        write!(f, "{letter}")?;
-        for value in self.values {
-            write!(f, " {value}")?;
-        }
-        Ok(())
+        put_row(f, self.kind.letter(), self.values)
     }
+}
+
+// A word, then each value after a space. What this needs is off the stack again when the line is written out.
+#[inline(never)]
+fn put_row<W: fmt::Write, N: fmt::Display>(
+    f: &mut fmt::Formatter<W>,
+    word: &str,
+    values: &[N],
+) -> fmt::Result
+    ensures { DisplaysOnOk W.write_str_gives f.old result (option_append (Some word.now) (row N.output values.now)) f.new }
+{
+    write!(f, "{word}")?;
+    for value in values {
+        write!(f, " {value}")?;
+    }
+    Ok(())
 }
 
 impl fmt::Display for FaultLine {

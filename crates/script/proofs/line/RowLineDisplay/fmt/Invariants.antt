@@ -1,8 +1,0 @@
-use Rattle.std.proofs.Common.{◌≤◌, length, take, Ok}
-use Rattle.std.specs.Fmt.{DisplaysOnOk}
-use Rattle.script.specs.Rows.{row}
-use Rattle.script.proofs.line.RowLineDisplay.fmt.Given as goal
-
-abbrev pub invariant-loop-value : goal.invariant-loop-value
-invariant-loop-value g l =
-    (l.value-index ≤ length l.self.values.now) × DisplaysOnOk g.W.Write.write_str_gives l.initial.f (Ok tt) (row g.N.Display.output (take l.value-index l.self.values.now)) l.f
